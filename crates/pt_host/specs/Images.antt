@@ -1,0 +1,50 @@
+-- Words for crash theorems: which files a layer holds, and how the images after a run of calls follow from those before it.
+use Rattle.std.specs.Prelude.{◌≡◌, ◌≢◌, ◌⊎◌, ℕ, List, Some, None}
+use Rattle.pt_host.specs.Disk.{Fs, Files, NameOp, Survives, names_after, present, MayHold, IsImage, Torn}
+
+-- Whatever a stop keeps, the name has this object.
+abbrev pub IsSteady : Fs → List ℕ → ℕ → Type 0
+IsSteady fs name object = (kept : List NameOp) → Survives fs.pending kept → names_after kept fs.names name ≡ Some object
+
+-- Only this name has the object, in whatever is kept, where any has it.
+pub record IsOwner (fs : Fs) (name : List ℕ) (object : ℕ) : Type 0 where
+  pub now : present fs name ≡ Some object
+  pub only : (kept : List NameOp) → Survives fs.pending kept → (names_after kept fs.names name ≡ None) ⊎ (names_after kept fs.names name ≡ Some object)
+  pub alone : (kept : List NameOp) → Survives fs.pending kept → (query : List ℕ) → names_after kept fs.names query ≡ Some object → query ≡ name
+
+-- The file is there with these bytes, whatever a stop leaves.
+pub record IsHeld (fs : Fs) (name bytes : List ℕ) : Type 0 where
+  pub object : ℕ
+  pub steady : IsSteady fs name object
+  pub sure : (left : List ℕ) → MayHold (fs.objects object) left → left ≡ bytes
+
+-- The file is there with these present bytes, of which a stop may still lose some. A sync makes it held.
+pub record IsThere (fs : Fs) (name file : List ℕ) : Type 0 where
+  pub object : ℕ
+  pub steady : IsSteady fs name object
+  pub bytes : (fs.objects object).bytes ≡ file
+
+-- What a write to one file leaves alone: no name changes, and no other object.
+pub record Rewrites (old new : Fs) (name : List ℕ) : Type 0 where
+  pub names : new.names ≡ old.names
+  pub pending : new.pending ≡ old.pending
+  pub others : (object : ℕ) → present old name ≢ Some object → new.objects object ≡ old.objects object
+
+-- two directories that are read alike
+abbrev pub AreSame : Files → Files → Type 0
+AreSame f g = (query : List ℕ) → g query ≡ f query
+
+-- they differ at this name alone
+abbrev pub OnlyAt : List ℕ → Files → Files → Type 0
+OnlyAt name before after = (query : List ℕ) → query ≢ name → after query ≡ before query
+
+-- The step of every write and sync: they differ in this range of this file alone.
+pub record Tears (name : List ℕ) (at count : ℕ) (before after : Files) : Type 0 where
+  pub only : OnlyAt name before after
+  pub here : (b : List ℕ) → before name ≡ Some b → (a : List ℕ) × (after name ≡ Some a) × Torn at count b a
+
+-- An image of before, from which a step leads to this one.
+pub record Follows (fs : Fs) (R : Files → Files → Type 0) (after : Files) : Type 0 where
+  pub before : Files
+  pub image : IsImage fs before
+  pub step : R before after

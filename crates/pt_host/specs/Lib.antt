@@ -1,0 +1,5 @@
+pub mod Name
+pub mod Disk
+pub mod Listed
+pub mod World
+pub mod Images
