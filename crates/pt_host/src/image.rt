@@ -2,7 +2,7 @@ ghost use Rattle.std.specs.List.Sorted.{IsStrictlySortedBy-prop};
 ghost use Rattle.pt_host.specs.Listed.{AreRising};
 
 use crate::Name;
-use pt_list::List;
+use pt_plain::List;
 
 /// Files with their names.
 pub type Files = List<(Name, List<u8>)>;

@@ -9,7 +9,7 @@
 //!
 //! The lemmas on images, held files and runs of calls stand in `proofs/` and speak of no host type.
 //!
-//! It stands on `pt_list`.
+//! It stands on `pt_plain`.
 #![tactic(auto)]
 
 mod host;

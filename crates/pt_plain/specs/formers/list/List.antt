@@ -14,10 +14,10 @@ use Rattle.std.specs.formers.vec.Vec as vec
 use Rattle.std.specs.declared.alloc.Global.{Global}
 use Rattle.std.specs.contracts.alloc.Global as heap
 use Rattle.std.specs.contracts.impls.GlobalAllocator.TheImpl.{ghosts}
-use Rattle.pt_list.specs.declared.list.List.TheInside.{Inside}
-use Rattle.pt_list.specs.declared.list.List.TheView.{view, invariant}
-use Rattle.pt_list.specs.contracts.list.List as contract
-use Rattle.pt_list.specs.contracts.list.List.TheInside as inside
+use Rattle.pt_plain.specs.declared.list.List.TheInside.{Inside}
+use Rattle.pt_plain.specs.declared.list.List.TheView.{view, invariant}
+use Rattle.pt_plain.specs.contracts.list.List as contract
+use Rattle.pt_plain.specs.contracts.list.List.TheInside as inside
 
 -- the value is the list of the elements
 abbrev pub the_former : Former {0} → Former {0}

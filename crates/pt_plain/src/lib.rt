@@ -1,4 +1,5 @@
-//! A list that contracts see as its elements, for every list of plain data above.
+//! Plain data that contracts see as values.
+//!
 //!
 //! A `Vec` carries a capacity and an allocator, so two of them with the same elements are two values. A `List` is its
 //! elements and nothing else: equal lists are equal values, in structs, enums and tuples too.
