@@ -1,6 +1,6 @@
 -- File names: 1 to 160 bytes of ASCII letters, digits, '_', '$', '#' and '.', the first one no '.', so that no call can
 -- be made on `.` or `..` or on a path.
-use Rattle.std.specs.Prelude.{◌≢◌, ℕ, ◌-◌, ◌<◌, ◌≤◌, Bool, ◌&&◌, ◌||◌, ◌==◌, nat_le, List, [], ◌∷◌, ◌++◌, length, replicate, All, slice_index, IsTrue, nat_eq}
+use Rattle.std.specs.Prelude.{◌≢◌, ℕ, ◌<◌, ◌≤◌, Bool, ◌&&◌, ◌||◌, ◌==◌, nat_le, List, [], ◌∷◌, length, All, slice_index, IsTrue, nat_eq}
 use Rattle.std.specs.List.{ends_with}
 
 abbrev pub is_name_byte : ℕ → Bool
@@ -23,7 +23,3 @@ temp_end = 46 ∷ 115 ∷ 119 ∷ 97 ∷ 112 ∷ []
 -- A name that ends so is extra: it is no part of what the directory stands for.
 abbrev pub is_extra : List ℕ → Bool
 is_extra bytes = ends_with nat_eq bytes shadow_end || ends_with nat_eq bytes temp_end
-
--- the bytes of a name as they are kept, with zeros after them
-abbrev pub padded_to_160 : List ℕ → List ℕ
-padded_to_160 bytes = bytes ++ replicate (160 - length bytes) 0

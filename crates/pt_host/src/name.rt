@@ -2,8 +2,9 @@ ghost use Rattle.std.specs.Prelude.{◌≡◌, ◌≤◌, ◌+◌, ◌++◌, ◌
 ghost use Rattle.std.specs.Cmp.{partial_equiv_from_equiv};
 ghost use Rattle.std.specs.Cmp.Lexicographic.{pointwise, slice_cmp, nat_list_eq_equiv, nat_list_cmp_total, texts_po, texts_ties};
 ghost use Rattle.std.specs.Ordering.{nat_cmp};
-ghost use Rattle.pt_host.specs.Name.{IsName, is_name_byte, is_extra, shadow_end, temp_end, padded_to_160};
+ghost use Rattle.pt_host.specs.Name.{IsName, is_name_byte, is_extra, shadow_end, temp_end};
 
+use pt_plain::{joined, padded};
 use std::cmp::Ordering;
 use std::marker::Model;
 
@@ -18,17 +19,18 @@ pub struct Name {
 impl Model for Name {
     ghost use Rattle.std.specs.Prelude.{◌≡◌, ◌-◌, ◌≤◌, ◌++◌, ℕ, List, length, take, replicate};
     ghost use Rattle.std.proofs.Common.{◌∙◌, ap, sym};
-    ghost use Rattle.pt_host.specs.Name.{IsName, padded_to_160};
+    ghost use Rattle.pt_plain.specs.Padded.{padded_to};
+    ghost use Rattle.pt_host.specs.Name.{IsName};
 
     ghost Value = { List ℕ };
 
     ghost view = { λ a. take a.len a.bytes };
 
-    ghost invariant = { λ a. IsName (take a.len a.bytes) × (a.bytes ≡ padded_to_160 (take a.len a.bytes)) × (length (take a.len a.bytes) ≡ a.len) };
+    ghost invariant = { λ a. IsName (take a.len a.bytes) × (a.bytes ≡ padded_to 160 (take a.len a.bytes)) × (length (take a.len a.bytes) ≡ a.len) };
 
-    ghost inverse = { λ xs. record { len = length xs; bytes = padded_to_160 xs } };
+    ghost inverse = { λ xs. record { len = length xs; bytes = padded_to 160 xs } };
 
-    ghost inverse_ok = { λ a h. ap (λ n. record { len = n; bytes = padded_to_160 (take a.len a.bytes) }) h.2 ∙ ap (λ (b : List ℕ). record { len = a.len; bytes = b }) (sym h.1) };
+    ghost inverse_ok = { λ a h. ap (λ n. record { len = n; bytes = padded_to 160 (take a.len a.bytes) }) h.2 ∙ ap (λ (b : List ℕ). record { len = a.len; bytes = b }) (sym h.1) };
 }
 
 impl Name {
@@ -85,7 +87,7 @@ impl Name {
     {
         Name {
             len: self.len + end.len() as u8,
-            bytes: with_end(self.bytes(), end),
+            bytes: joined(self.bytes(), end),
         }
     }
 }
@@ -111,28 +113,6 @@ fn is_name_byte(b: u8) -> bool
         || b == b'$'
         || b == b'#'
         || b == b'.'
-}
-
-fn padded(bytes: &[u8]) -> [u8; 160]
-    requires { length bytes.now ≤ 160 }
-    ensures { result ≡ padded_to_160 bytes.now }
-{
-    let mut all = [0u8; 160];
-    for (i, b) in bytes.iter().enumerate() {
-        all[i] = *b;
-    }
-    all
-}
-
-fn with_end(bytes: &[u8], end: &[u8]) -> [u8; 160]
-    requires { length bytes.now + length end.now ≤ 160 }
-    ensures { result ≡ padded_to_160 (bytes.now ++ end.now) }
-{
-    let mut all = padded(bytes);
-    for (i, b) in end.iter().enumerate() {
-        all[bytes.len() + i] = *b;
-    }
-    all
 }
 
 impl PartialEq for Name {

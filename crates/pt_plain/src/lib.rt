@@ -1,12 +1,14 @@
 //! Plain data that contracts see as values.
 //!
-//!
-//! A `Vec` carries a capacity and an allocator, so two of them with the same elements are two values. A `List` is its
-//! elements and nothing else: equal lists are equal values, in structs, enums and tuples too.
+//! - `List`: a `Vec` carries a capacity and an allocator, so two of them with the same elements are two values. A `List`
+//!   is its elements and nothing else: equal lists are equal values, in structs, enums and tuples too.
+//! - `padded` and `joined`: short byte strings in arrays, with zeros after them, for names that are `Copy`.
 //!
 //! It stands on std alone.
 #![tactic(auto)]
 
 mod list;
+mod short;
 
 pub use list::List;
+pub use short::{joined, padded};

@@ -1,5 +1,0 @@
-use Rattle.std.proofs.Common.{◌≡◌, ◌-◌, ◌++◌, take, replicate}
-use Rattle.pt_host.proofs.name.padded.Given as goal
-
-abbrev pub invariant-loop-i : goal.invariant-loop-i
-invariant-loop-i l = l.all ≡ take l.i l.bytes ++ replicate (160 - l.i) 0
