@@ -1,1 +1,4 @@
 pub mod Word
+pub mod Answer
+pub mod Step
+pub mod Sound
