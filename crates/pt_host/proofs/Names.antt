@@ -1,8 +1,8 @@
 -- Names, a map with one name changed, and what a stop keeps of the pending name operations.
 --
 -- Only `survives_all`, `survives_none` and `survives_push` open `Survives`: all other proofs rest on these three.
-use Rattle.std.proofs.Common.{◌≡◌, ◌≢◌, ◌⊎◌, ℕ, Bool, true, false, cond, List, [], ◌∷◌, ◌++◌, refl, sym, ap, inl, inr, append-nil}
-use Rattle.std.specs.Prelude.{Option}
+use Rattle.std.proofs.Common.{◌≡◌, ◌≢◌, ◌⊎◌, ℕ, Bool, true, false, cond, List, [], ◌∷◌, ◌++◌, refl, sym, ap, ◌∙◌, inl, inr, append-nil}
+use Rattle.std.specs.Prelude.{Option, Some}
 use Rattle.std.specs.Str.{bytes_eq}
 use Rattle.std.proofs.lemmas.Slice.Eq.{bytes_eq-Decides}
 use Rattle.pt_host.specs.Disk.{Names, NameOp, put, after_op, names_after, Survives}
@@ -70,3 +70,23 @@ survives_push (o ∷ ops) op (k ∷ kept) h =
 pub names_after-push : (ops : List NameOp) (op : NameOp) (names : Names) → names_after (ops ++ op ∷ []) names ≡ after_op op (names_after ops names)
 names_after-push [] op names = refl
 names_after-push (o ∷ ops) op names = names_after-push ops op (after_op o names)
+
+-- What holds whatever is kept, and also after one more operation, holds whatever is kept of them all.
+pub kept_push : (ops : List NameOp) (op : NameOp) (names : Names) (P : Names → Type 0)
+    → ((kept : List NameOp) → Survives ops kept → P (names_after kept names))
+    → ((kept : List NameOp) → Survives ops kept → P (names_after kept names) → P (after_op op (names_after kept names)))
+    → (kept : List NameOp) → Survives (ops ++ op ∷ []) kept → P (names_after kept names)
+kept_push ops op names P base step kept s =
+    elim (survives_push ops op kept s) [
+      | inl lost ↦ base kept lost
+      | inr more ↦ rw (more.2, names_after-push more.0 op names) (step more.0 more.1 (base more.0 more.1))
+    ]
+
+-- The value of one name is of the change, or of before.
+pub put_some : {X : Type 0} → (names : List ℕ → Option X) (name query : List ℕ) (to : Option X) (x : X) → put names name to query ≡ Some x
+    → ((query ≡ name) × (to ≡ Some x)) ⊎ ((query ≢ name) × (names query ≡ Some x))
+put_some names name query to x e =
+    elim (cases_name query name) [
+      | inl same ↦ inl (same, sym (put_at names name query to same) ∙ e)
+      | inr other ↦ inr (other, sym (put_other names name query to other) ∙ e)
+    ]
