@@ -1,3 +1,4 @@
 pub mod Padding
 pub mod Names
 pub mod Sound
+pub mod Images
