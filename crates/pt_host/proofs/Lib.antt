@@ -2,3 +2,4 @@ pub mod Padding
 pub mod Names
 pub mod Sound
 pub mod Images
+pub mod Runs
