@@ -3,3 +3,4 @@ pub mod Names
 pub mod Sound
 pub mod Images
 pub mod Runs
+pub mod Writes
