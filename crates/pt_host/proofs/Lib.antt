@@ -4,3 +4,4 @@ pub mod Sound
 pub mod Images
 pub mod Runs
 pub mod Writes
+pub mod Held

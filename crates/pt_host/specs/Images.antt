@@ -24,6 +24,11 @@ pub record IsThere (fs : Fs) (name file : List ℕ) : Type 0 where
   pub steady : IsSteady fs name object
   pub bytes : (fs.objects object).bytes ≡ file
 
+-- What leaves this file alone: where the name has one object whatever a stop keeps, it still does, and the object is as it was.
+pub record Keeps (old new : Fs) (name : List ℕ) : Type 0 where
+  pub steady : (object : ℕ) → IsSteady old name object → IsSteady new name object
+  pub same : (object : ℕ) → IsSteady old name object → new.objects object ≡ old.objects object
+
 -- What a write to one file leaves alone: no name changes, and no other object.
 pub record Rewrites (old new : Fs) (name : List ℕ) : Type 0 where
   pub names : new.names ≡ old.names
