@@ -5,3 +5,4 @@ pub mod Images
 pub mod Runs
 pub mod Writes
 pub mod Held
+pub mod Tears
