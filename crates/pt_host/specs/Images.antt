@@ -1,6 +1,6 @@
 -- Words for crash theorems: which files a layer holds, and how the images after a run of calls follow from those before it.
-use Rattle.std.specs.Prelude.{◌≡◌, ◌≢◌, ◌⊎◌, ℕ, List, Some, None}
-use Rattle.pt_host.specs.Disk.{Fs, Files, NameOp, Survives, names_after, present, MayHold, IsImage, Torn}
+use Rattle.std.specs.Prelude.{◌≡◌, ◌≢◌, ◌⊎◌, ℕ, List, [], Some, None}
+use Rattle.pt_host.specs.Disk.{Fs, Files, NameOp, Create, Rename, Unlink, Survives, put, moved, names_after, present, MayHold, AreFiles, IsImage, Torn}
 
 -- Whatever a stop keeps, the name has this object.
 abbrev pub IsSteady : Fs → List ℕ → ℕ → Type 0
@@ -24,6 +24,11 @@ pub record IsThere (fs : Fs) (name file : List ℕ) : Type 0 where
   pub steady : IsSteady fs name object
   pub bytes : (fs.objects object).bytes ≡ file
 
+-- What leaves this file alone: where the name has one object whatever a stop keeps, it still does, and the object is as it was.
+pub record Keeps (old new : Fs) (name : List ℕ) : Type 0 where
+  pub steady : (object : ℕ) → IsSteady old name object → IsSteady new name object
+  pub same : (object : ℕ) → IsSteady old name object → new.objects object ≡ old.objects object
+
 -- What a write to one file leaves alone: no name changes, and no other object.
 pub record Rewrites (old new : Fs) (name : List ℕ) : Type 0 where
   pub names : new.names ≡ old.names
@@ -37,6 +42,25 @@ AreSame f g = (query : List ℕ) → g query ≡ f query
 -- they differ at this name alone
 abbrev pub OnlyAt : List ℕ → Files → Files → Type 0
 OnlyAt name before after = (query : List ℕ) → query ≢ name → after query ≡ before query
+
+-- Each pending operation is kept.
+abbrev pub IsFull : Fs → Files → Type 0
+IsFull fs files = AreFiles fs.objects (present fs) files
+
+-- what a name operation does to files
+abbrev pub files_after : NameOp → Files → Files
+files_after (Create name object) files = put files name (Some [])
+files_after (Rename from to) files = moved files from to (files from)
+files_after (Unlink name) files = put files name None
+
+-- The step of a name operation: nothing or all of it.
+abbrev pub Does : NameOp → Files → Files → Type 0
+Does op before after = AreSame before after ⊎ AreSame (files_after op before) after
+
+-- The step of a change of one file: it isn't there, or its bytes are so related, and nothing else differs.
+pub record Changes (name : List ℕ) (R : List ℕ → List ℕ → Type 0) (before after : Files) : Type 0 where
+  pub only : OnlyAt name before after
+  pub here : ((before name ≡ None) × (after name ≡ None)) ⊎ ((b a : List ℕ) × (before name ≡ Some b) × (after name ≡ Some a) × R b a)
 
 -- The step of every write and sync: they differ in this range of this file alone.
 pub record Tears (name : List ℕ) (at count : ℕ) (before after : Files) : Type 0 where
