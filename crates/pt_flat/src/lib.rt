@@ -7,6 +7,7 @@
 #![tactic(auto)]
 
 mod data;
+mod lookup;
 mod reply;
 mod word;
 
