@@ -7,7 +7,10 @@
 #![tactic(auto)]
 
 mod data;
+mod lookup;
+mod reply;
 mod word;
 
 pub use data::{Bin, Db, Reply, Rows, Stmt, Table, Tables};
+pub use reply::syntax_reply;
 pub use word::{Word, is_word_byte};

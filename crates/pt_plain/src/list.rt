@@ -1,4 +1,6 @@
-ghost use Rattle.std.specs.Prelude.{◌≡◌, ◌≤◌, [], ◌∷◌, ◌++◌, length, insert, IfOk, OnOk, OnErr};
+ghost use Rattle.std.specs.Prelude.{◌≡◌, ◌≤◌, ◌<◌, [], ◌∷◌, ◌++◌, length, insert, slice_index_or, IfOk, OnOk, OnErr};
+ghost use Rattle.std.specs.Borrow.{sem};
+ghost use Rattle.pt_plain.specs.Lends.{LendsItem};
 
 use std::alloc::{AllocError, Global};
 use std::marker::Model;
@@ -42,6 +44,15 @@ impl<T> List<T> {
         ensures { result.now ≡ self.now }
     {
         self.vec.as_slice()
+    }
+
+    /// The element at `at`, lent to be changed in place. It takes no memory.
+    pub fn item_mut(&mut self, at: usize) -> &mut T
+        requires { at < length self.old }
+        ensures* writes_back { sem 𝓛 (LendsItem T.row self.entry at result) }
+        ensures value { result.now ≡ slice_index_or self.old at result.now }
+    {
+        &mut self.vec[at]
     }
 
     /// The elements, given back. It takes no memory.
