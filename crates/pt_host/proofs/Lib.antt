@@ -6,3 +6,4 @@ pub mod Runs
 pub mod Writes
 pub mod Held
 pub mod Tears
+pub mod Rising
