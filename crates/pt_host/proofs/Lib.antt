@@ -7,3 +7,4 @@ pub mod Writes
 pub mod Held
 pub mod Tears
 pub mod Rising
+pub mod Shown
