@@ -8,3 +8,4 @@ pub mod Held
 pub mod Tears
 pub mod Rising
 pub mod Shown
+pub mod Replacement

@@ -7,7 +7,7 @@ use Rattle.pt_host.specs.Images.{IsHeld, AreSame, OnlyAt, files_after, Rewrites}
 use Rattle.pt_host.proofs.Names.{put_same, put_other, put_each, put_cong, put_map, survives_all, names_after-push}
 use Rattle.pt_host.proofs.Sound.{shown_object}
 use Rattle.pt_host.proofs.Images.{changed, other_object, this_object, read, may_be_some, may_be_none, shown_is_image, shown_is_full, full_is_image, settled_images}
-use Rattle.pt_host.proofs.Held.{settled_steady}
+use Rattle.pt_host.proofs.Held.{settled_steady, steady_now}
 
 -- # After each call
 
@@ -129,22 +129,30 @@ at_rest_images fs rest files image query = rw (rest.settled) (go (fs.names query
 
 -- # A rename with a sync of names
 
--- It moves a held file in every image, and leaves nothing of its old name.
-pub rename_sure : (fs : Fs) (from to bytes : List ℕ) → IsHeld fs from bytes → IsHeld (names_synced (with_op (Rename from to) fs)) to bytes
-rename_sure fs from to bytes held = record {
-  object = held.object;
-  steady = settled_steady (names_synced (with_op (Rename from to) fs)) to held.object refl
+-- It moves a file that is sure where it is there, in every image.
+pub moved_sure : (fs : Fs) (from to bytes : List ℕ) (object : ℕ) → present fs from ≡ Some object → ((left : List ℕ) → MayHold (fs.objects object) left → left ≡ bytes)
+    → IsHeld (names_synced (with_op (Rename from to) fs)) to bytes
+moved_sure fs from to bytes object now sure = record {
+  object = object;
+  steady = settled_steady (names_synced (with_op (Rename from to) fs)) to object refl
       (ap (λ (names : Names). names to) (names_after-push fs.pending (Rename from to) fs.names)
-      ∙ ap (λ had. moved (present fs) from to had to) (held.steady fs.pending (survives_all fs.pending))
-      ∙ put_same (put (present fs) from None) to (Some held.object));
-  sure = held.sure;
+      ∙ ap (λ had. moved (present fs) from to had to) now
+      ∙ put_same (put (present fs) from None) to (Some object));
+  sure = sure;
 }
 
-pub rename_gone : (fs : Fs) (from to bytes : List ℕ) → from ≢ to → IsHeld fs from bytes → EachImage (names_synced (with_op (Rename from to) fs)) (λ files. files from ≡ None)
-rename_gone fs from to bytes differ held =
+-- It leaves nothing of the old name.
+pub moved_gone : (fs : Fs) (from to : List ℕ) (object : ℕ) → from ≢ to → present fs from ≡ Some object → EachImage (names_synced (with_op (Rename from to) fs)) (λ files. files from ≡ None)
+moved_gone fs from to object differ now =
     absence (names_synced (with_op (Rename from to) fs)) from refl
     (ap (read fs.objects)
     (ap (λ (names : Names). names from) (names_after-push fs.pending (Rename from to) fs.names)
-    ∙ ap (λ had. moved (present fs) from to had from) (held.steady fs.pending (survives_all fs.pending))
-    ∙ put_other (put (present fs) from None) to from (Some held.object) differ
+    ∙ ap (λ had. moved (present fs) from to had from) now
+    ∙ put_other (put (present fs) from None) to from (Some object) differ
     ∙ put_same (present fs) from None))
+
+pub rename_sure : (fs : Fs) (from to bytes : List ℕ) → IsHeld fs from bytes → IsHeld (names_synced (with_op (Rename from to) fs)) to bytes
+rename_sure fs from to bytes held = moved_sure fs from to bytes held.object (steady_now fs from held.object held.steady) held.sure
+
+pub rename_gone : (fs : Fs) (from to bytes : List ℕ) → from ≢ to → IsHeld fs from bytes → EachImage (names_synced (with_op (Rename from to) fs)) (λ files. files from ≡ None)
+rename_gone fs from to bytes differ held = moved_gone fs from to held.object differ (steady_now fs from held.object held.steady)
