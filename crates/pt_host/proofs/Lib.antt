@@ -6,3 +6,6 @@ pub mod Runs
 pub mod Writes
 pub mod Held
 pub mod Tears
+pub mod Rising
+pub mod Shown
+pub mod Replacement

@@ -4,6 +4,7 @@
 use Rattle.std.proofs.Common.{◌≡◌, ◌≢◌, ◌⊎◌, ℕ, Bool, true, false, cond, List, [], ◌∷◌, ◌++◌, refl, sym, ap, ◌∙◌, inl, inr, append-nil}
 use Rattle.std.specs.Prelude.{Option, Some}
 use Rattle.std.specs.Str.{bytes_eq}
+use Rattle.std.specs.Option.{option_map}
 use Rattle.std.proofs.lemmas.Slice.Eq.{bytes_eq-Decides}
 use Rattle.pt_host.specs.Disk.{Names, NameOp, put, after_op, names_after, Survives}
 
@@ -90,3 +91,19 @@ put_some names name query to x e =
       | inl same ↦ inl (same, sym (put_at names name query to same) ∙ e)
       | inr other ↦ inr (other, sym (put_other names name query to other) ∙ e)
     ]
+
+-- maps that are alike stay so
+pub put_cong : {X : Type 0} → (f g : List ℕ → Option X) (name : List ℕ) (to : Option X) → ((query : List ℕ) → g query ≡ f query) → (query : List ℕ) → put g name to query ≡ put f name to query
+put_cong f g name to same query = ap (λ x. cond (bytes_eq name query) to x) (same query)
+
+-- what a name has already changes nothing
+pub put_itself : {X : Type 0} → (names : List ℕ → Option X) (name query : List ℕ) → put names name (names name) query ≡ names query
+put_itself names name query = put_each names name (names name) (λ other x. x ≡ names other) refl (λ other differs. refl) query
+
+pub put_map : {X Y : Type 0} → (f : X → Y) (names : List ℕ → Option X) (name query : List ℕ) (to : Option X)
+    → option_map f (put names name to query) ≡ put (λ other. option_map f (names other)) name (option_map f to) query
+put_map f names name query to = go (bytes_eq name query)
+  where
+    go : (same : Bool) → option_map f (cond same to (names query)) ≡ cond same (option_map f to) (option_map f (names query))
+    go true = refl
+    go false = refl

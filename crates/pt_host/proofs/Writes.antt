@@ -1,5 +1,5 @@
 -- Writes to one file: which bytes they leave alone, and what a stop may leave of them.
-use Rattle.std.proofs.Common.{◌≡◌, ◌⊎◌, ℕ, zero, suc, ◌+◌, ◌-◌, ◌<◌, ◌≤◌, min, max, Bool, true, false, cond, ◌&&◌, ◌||◌, List, [], ◌∷◌, length, take, drop, get_or, refl, sym, ap, ◌∙◌, arith, inl, inr, length-append, length-take, length-drop}
+use Rattle.std.proofs.Common.{◌≡◌, ◌⊎◌, ℕ, zero, suc, ◌+◌, ◌-◌, ◌<◌, ◌≤◌, min, max, Bool, true, false, cond, ◌&&◌, ◌||◌, List, [], ◌∷◌, ◌++◌, length, take, drop, get_or, refl, sym, ap, ◌∙◌, arith, inl, inr, length-append, length-take, length-drop}
 use Rattle.std.specs.Prelude.{nat_le, nat_lt}
 use Rattle.std.proofs.lemmas.List.{get_or-take, get_or-drop, take-take, drop-drop}
 use Rattle.std.proofs.lemmas.Grind.{same_number_lists, common_steps}
@@ -66,6 +66,10 @@ overwrite_torn at bytes file within = record {
   no_shorter = simp (length-append, length-take, length-drop) (omega arith);
   no_longer = simp (length-append, length-take, length-drop) (omega arith);
 }
+
+-- bytes written at the end
+pub overwrite_end : (bytes file : List ℕ) → overwrite (length file) bytes file ≡ file ++ bytes
+overwrite_end bytes file = grind (arith, common_steps)
 
 -- # What a stop may leave of a write
 

@@ -3,3 +3,4 @@ pub mod Disk
 pub mod Listed
 pub mod World
 pub mod Images
+pub mod Replacement

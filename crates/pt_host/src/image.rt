@@ -1,3 +1,4 @@
+ghost use Rattle.std.specs.Prelude.{◌≡◌, ◌↔◌, IsTrue, IsSome, IfSome};
 ghost use Rattle.std.specs.List.Sorted.{IsStrictlySortedBy-prop};
 ghost use Rattle.pt_host.specs.Listed.{AreRising};
 
@@ -12,4 +13,24 @@ pub type Files = List<(Name, List<u8>)>;
 pub struct Image {
     pub files: Files,
     pub ghost rising: { AreRising files } by { IsStrictlySortedBy-prop _ _ },
+}
+
+impl Image {
+    /// The directory with these files. `None` exactly where their names don't rise in byte order, each once. It takes
+    /// no memory.
+    pub fn of(files: Files) -> Option<Image>
+        ensures some { IsSome result ↔ AreRising files }
+        ensures files { IfSome result (λ image. image.files ≡ files) }
+    {
+        if !are_rising(files.items()) {
+            return None;
+        }
+        Some(Image { files })
+    }
+}
+
+fn are_rising(files: &[(Name, List<u8>)]) -> bool
+    ensures { IsTrue result ↔ AreRising files.now }
+{
+    files.is_sorted_by(|a, b| a.0 < b.0)
 }
