@@ -1,12 +1,12 @@
 -- What a statement leaves of a sound database is sound.
-use Rattle.std.proofs.Common.{◌≡◌, ◌≢◌, ℕ, suc, ◌+◌, ◌<◌, ◌≤◌, ◌^◌, Bool, true, false, cond, IsTrue, ℤ, List, [], ◌∷◌, ◌++◌, map, length, take, drop, set, get_or, Some, None, refl, sym, ap, ◌∙◌, subst, arith, rules, Less, Equal}
+use Rattle.std.proofs.Common.{◌≡◌, ◌≢◌, ℕ, suc, ◌+◌, ◌-◌, ◌<◌, ◌≤◌, ◌^◌, Bool, true, false, cond, IsTrue, ℤ, List, [], ◌∷◌, ◌++◌, map, length, take, drop, set, get_or, Some, None, refl, sym, ap, ◌∙◌, subst, arith, rules, Less, Equal}
 use Rattle.std.specs.List.{All, AllPairs, AllByRecursion, flat_map, filter, insert, find, position}
 use Rattle.std.specs.List.Sorted.{IsStrictlySortedBy}
 use Rattle.std.specs.Ordering.{nat_cmp, is_lt, is_gt}
 use Rattle.std.specs.Cmp.Lexicographic.{slice_cmp}
 use Rattle.std.specs.Option.{is_some}
 use Rattle.std.specs.Str.{bytes_eq}
-use Rattle.std.proofs.lemmas.Bool.{lt-ltb}
+use Rattle.std.proofs.lemmas.Bool.{lt-ltb, le-ltb}
 use Rattle.std.proofs.lemmas.Cmp.{nat_list_cmp_total}
 use Rattle.std.proofs.lemmas.List.{map_push, map-append, map-set, set-get_or, set_split, take-append-drop, append_assoc, drop_more, get_or-map}
 use Rattle.std.proofs.lemmas.List.Concat.{flat_map-append, flat_map-cons}
@@ -16,9 +16,9 @@ use Rattle.pt_flat.specs.declared.data.Table.{Table}
 use Rattle.pt_flat.specs.declared.data.Db.{Db}
 use Rattle.pt_flat.specs.declared.data.Stmt.TheVariants.{Create, Insert, Select}
 use Rattle.pt_flat.specs.Word.{IsWord}
-use Rattle.pt_flat.specs.Step.{is_int, has_table, with_table, with_row, changed}
+use Rattle.pt_flat.specs.Step.{is_int, has_table, with_table, with_row, changed, after}
 use Rattle.pt_flat.specs.Sound.{IsSound, IsSoundTable, serials}
-use Rattle.pt_flat.proofs.Rising.{sorted_nil, sorted_push, placed, rising_placed}
+use Rattle.pt_flat.proofs.Rising.{sorted_nil, sorted_push, passing_le, placed, rising_placed}
 use Rattle.pt_flat.proofs.Pairs.{all_left, all_right, all_flat_map, pairs_between}
 use Rattle.pt_flat.proofs.Updated.{one_changed}
 use Rattle.pt_flat.proofs.Named.{none_ties, one_place}
@@ -83,10 +83,17 @@ serials_inserted tables i table none =
     ∙ sym (flat_map-append serials (take i tables) (drop i tables))
     ∙ ap (flat_map serials) (take-append-drop i tables)
 
+-- the place of a new table of this name
+abbrev pub place_in : List Table → List ℕ → ℕ
+place_in tables name = length (filter (λ other. is_lt (slice_cmp nat_cmp other.name name)) tables)
+
+pub place_within : (tables : List Table) (name : List ℕ) → place_in tables name ≤ length tables
+place_within tables name = passing_le (λ (other : Table). is_lt (slice_cmp nat_cmp other.name name)) tables (place_in tables name) refl
+
 -- a new table stands in its place
 pub with_table_is : (tables : List Table) (table : Table) → IsStrictlySortedBy (slice_cmp nat_cmp) (map (λ other. other.name) tables)
     → is_some (find (λ other. bytes_eq other.name table.name) tables) ≡ false
-    → with_table table tables ≡ insert tables (length (filter (λ other. is_lt (slice_cmp nat_cmp other.name table.name)) tables)) table
+    → with_table table tables ≡ insert tables (place_in tables table.name) table
 with_table_is tables table rising absent =
     placed (slice_cmp nat_cmp) nat_list_cmp_total (λ (t : Table). t.name) table.name tables table rising (none_ties (λ (t : Table). t.name) table.name tables absent)
 
@@ -179,3 +186,19 @@ sound_inserted db name value i sound at fits room =
       some = omega arith;
       most = omega arith;
     }
+
+-- the database with the row pushed at the table's place
+pub inserted : (db : Db) (name : List ℕ) (value : ℤ) (i : ℕ) (item : Table) (rows : List (ℕ × ℤ)) → IsSound db
+    → position (λ table. bytes_eq table.name name) db.tables ≡ Some i
+    → item ≡ get_or db.tables i item → rows ≡ item.rows ++ (db.next, value) ∷ []
+    → changed db (Insert name value) ≡ record { tables = set db.tables i (record { name = item.name; column = item.column; rows = rows }); next = db.next + 1 }
+inserted db name value i item rows sound at read pushed =
+    ap (λ (tables : List Table). let it : Db = record { tables = tables; next = db.next + 1 } in it)
+    (with_row_is name (db.next, value) db.tables i item sound.rising at
+    ∙ ap (λ (table : Table). set db.tables i (with_one (db.next, value) table)) (sym read)
+    ∙ ap (λ (xs : List (ℕ × ℤ)). set db.tables i (record { name = item.name; column = item.column; rows = xs })) (sym pushed))
+
+-- an INSERT that isn't refused leaves what it changes
+pub after_inserted : (db : Db) (name : List ℕ) (value : ℤ) → has_table db name ≡ true → is_int value ≡ true → db.next < 2 ^ 62
+    → after db (Insert name value) ≡ changed db (Insert name value)
+after_inserted db name value there fits room = rw (there, fits, le-ltb (2 ^ 62 - 1) db.next (omega arith)) refl

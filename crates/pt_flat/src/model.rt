@@ -57,6 +57,9 @@ fn create(alloc: Global, db: &mut Db, name: &Word, column: &Word) -> Result<Repl
         return refused_for(alloc, 10, "table_exists", name.bytes());
     }
     let reply = line_reply(alloc, "ok")?;
+    // Each is a word.
+    name.bytes();
+    column.bytes();
     let table = Table {
         name: *name,
         column: *column,
