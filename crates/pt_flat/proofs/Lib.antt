@@ -2,3 +2,4 @@ pub mod Rising
 pub mod Pairs
 pub mod Updated
 pub mod Named
+pub mod Sound

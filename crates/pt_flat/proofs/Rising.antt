@@ -1,10 +1,11 @@
 -- Lists that rise strictly by a key, and one more element in its place.
-use Rattle.std.proofs.Common.{◌≡◌, ◌≢◌, ℕ, ◌<◌, ◌≤◌, Bool, true, false, List, [], ◌∷◌, ◌++◌, map, length, take, drop, get_or, refl, sym, ap, ◌∙◌, subst, arith, Ordering, Less, Equal, Greater}
+use Rattle.std.proofs.Common.{◌≡◌, ◌≢◌, ℕ, ◌<◌, ◌≤◌, Bool, true, false, not, List, [], ◌∷◌, ◌++◌, map, length, take, drop, get_or, refl, sym, ap, ◌∙◌, subst, arith, Ordering, Less, Equal, Greater}
 use Rattle.std.specs.List.{filter, insert, All, AllPairs, AllByRecursion}
 use Rattle.std.specs.List.Sorted.{IsStrictlySortedBy}
 use Rattle.std.specs.Cmp.{IsTotalOrder}
 use Rattle.std.specs.Ordering.{ordering_reverse, is_lt, is_gt, nat_cmp}
 use Rattle.std.proofs.lemmas.List.Elements.{All-from_recursion, recursion_from_All, All-append, All-cons, All-map, All-filter}
+use Rattle.std.proofs.lemmas.List.Filters.{length-filter_both}
 use Rattle.std.proofs.lemmas.Map.Keys.{sorted_head, sorted_tail, Less-from_sorted}
 use Rattle.std.proofs.lemmas.List.{length-map, get_or-map, map-append}
 
@@ -25,6 +26,10 @@ sorted_push cmp (x ∷ xs) y rising below =
     sorted_cons cmp x (xs ++ y ∷ [])
     (recursion_from_All (λ k. cmp x k ≡ Less) (xs ++ y ∷ []) (All-append (λ k. cmp x k ≡ Less) xs (y ∷ []) head last))
     (sorted_push cmp xs y (sorted_tail cmp x xs rising) below.1)
+
+-- as many as pass a test are at most all
+pub passing_le : {X : Type 0} (p : X → Bool) (xs : List X) (n : ℕ) → n ≡ length (filter p xs) → n ≤ length xs
+passing_le p xs n e = omega (arith, length-filter_both p (λ x. not (p x)) (λ x. refl) xs)
 
 module _ {X K : Type 0} (cmp : K → K → Ordering) (order : IsTotalOrder cmp) (key : X → K) (at : K) where
   abbrev below : X → Bool

@@ -9,8 +9,10 @@
 mod data;
 mod lookup;
 mod reply;
+mod model;
 mod word;
 
 pub use data::{Bin, Db, Reply, Rows, Stmt, Table, Tables};
 pub use reply::syntax_reply;
+pub use model::step;
 pub use word::{Word, is_word_byte};
