@@ -1,7 +1,7 @@
 use crate::reading::read_some;
 use pt_host::Name;
 use std::alloc::{AllocError, Global};
-use std::fs::{Metadata, OpenFile, OpenOptions};
+use std::fs::{File, Metadata, OpenFile, OpenOptions};
 use std::io::ErrorKind;
 use std::os::unix::fs::MetadataExt;
 use std::rt::Files;
@@ -30,7 +30,7 @@ impl<R: Files> Folder<R> {
         if !dir.ends_with('/') {
             path.push('/')?;
         }
-        let directory = fs::open(rt, path.as_str())?;
+        let directory = moved_up(fs::open(rt, path.as_str())?)?;
         if !directory.metadata()?.is_dir() {
             return Err(ErrorKind::NotADirectory.into());
         }
@@ -70,11 +70,18 @@ impl<R: Files> Folder<R> {
             .read(true)
             .write(true)
             .open(rt, path.as_str())?;
+        let file = moved_up(file)?;
         let opened = file.metadata()?;
         if opened.dev() != found.dev() || opened.ino() != found.ino() {
             return Err(ErrorKind::InvalidInput.into());
         }
         Ok(file)
+    }
+
+    /// Makes an empty file and opens it to read and write. It fails where the name is there, also as a link.
+    pub(crate) fn create_file(&self, alloc: Global, rt: &R, name: &Name) -> io::Result<R::File> {
+        let path = self.path_of(alloc, name)?;
+        moved_up(File::create_new(rt, path.as_str())?)
     }
 
     /// The names in the directory in rising byte order. What is no `Name` is left out.
@@ -91,6 +98,15 @@ impl<R: Files> Folder<R> {
             push_names(&mut names, &block[..count])?;
         }
         Err(ErrorKind::TimedOut.into())
+    }
+}
+
+/// The open file under a number of its own, which is never that of a standard stream. Where such a stream was closed
+/// before the program began, a file may be opened under its number, and what is said would land in it.
+fn moved_up<F: OpenFile + Drop>(file: F) -> io::Result<F> {
+    match file.try_clone() {
+        Err(error) if error.kind() == ErrorKind::Unsupported => Ok(file),
+        answer => answer,
     }
 }
 

@@ -4,7 +4,7 @@ use crate::folder::Folder;
 use crate::reading::{fill, read_some};
 use pt_host::Name;
 use std::alloc::Global;
-use std::fs::{File, OpenFile};
+use std::fs::OpenFile;
 use std::io::{ErrorKind, Read, Seek, SeekFrom, Write};
 use std::rt::Runtime;
 use std::{fs, io};
@@ -121,8 +121,7 @@ impl<R: Runtime> System<R> {
 
     pub(crate) fn create(&mut self, name: &Name) -> io::Result<()> {
         self.listed = None;
-        let path = self.entered()?.path_of(self.alloc, name)?;
-        let file = File::create_new(&self.rt, path.as_str())?;
+        let file = self.entered()?.create_file(self.alloc, &self.rt, name)?;
         self.held = Some((*name, file));
         Ok(())
     }
