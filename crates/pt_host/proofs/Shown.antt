@@ -1,6 +1,6 @@
 -- What is read: after each call, as an image, and with nothing pending.
 use Rattle.std.proofs.Common.{◌≡◌, ◌≢◌, ℕ, ◌<◌, ◌≤◌, true, false, List, [], length, is_some, refl, sym, ap, ◌∙◌, subst, arith}
-use Rattle.std.specs.Prelude.{Option, Some, None}
+use Rattle.std.specs.Prelude.{Option, Some, None, IsSome, IsSomeAnd}
 use Rattle.std.proofs.lemmas.Grind.{same_number_lists}
 use Rattle.pt_host.specs.Disk.{Names, Files, NameOp, Create, Rename, Unlink, Object, empty_object, MayHold, MayBe, Fs, put, moved, after_op, present, shown, EachImage, IsAtRest, IsSound, with_object, on_file, with_op, created, names_synced}
 use Rattle.pt_host.specs.Images.{IsHeld, AreSame, OnlyAt, files_after, Rewrites}
@@ -55,6 +55,17 @@ shown_rewritten old new name sound r query differs = rw (r.pending, r.names) (go
     go : (had : Option ℕ) → present old query ≡ had → read new.objects had ≡ read old.objects had
     go None e = refl
     go (Some object) e = ap (λ (o : Object). Some o.bytes) (r.others object (λ f. differs (sound.once old.pending (survives_all old.pending) query name object e f)))
+
+-- # What calls ask of what is read, and say of it
+
+pub shown_some : (fs : Fs) (name file : List ℕ) → shown fs name ≡ Some file → IsSome (shown fs name)
+shown_some fs name file e = rw e refl
+
+pub shown_within : (fs : Fs) (name file : List ℕ) (at : ℕ) → shown fs name ≡ Some file → at ≤ length file → IsSomeAnd (shown fs name) (λ bytes. at ≤ length bytes)
+shown_within fs name file at e within = rw e within
+
+pub shown_gives : (fs : Fs) (name file : List ℕ) (P : List ℕ → Type 0) → shown fs name ≡ Some file → IsSomeAnd (shown fs name) P → P file
+shown_gives fs name file P e h = rw e at h
 
 -- # What each image has
 
