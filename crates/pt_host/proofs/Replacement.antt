@@ -1,6 +1,6 @@
 -- The steps by which a file is replaced by its shadow.
 use Rattle.std.proofs.Common.{◌≡◌, ◌≢◌, ◌⊎◌, ℕ, ◌<◌, ◌≤◌, List, [], length, refl, sym, ap, ◌∙◌, subst, arith, inl, inr}
-use Rattle.std.specs.Prelude.{Option, Some, None}
+use Rattle.std.specs.Prelude.{Option, Some, None, IsSome, IsSomeAnd}
 use Rattle.std.specs.Option.{option_map}
 use Rattle.pt_host.specs.Disk.{Names, Files, NameOp, Create, Rename, Unlink, Object, empty_object, MayHold, Fs, put, moved, names_after, present, shown, written, overwrite, synced, Survives, IsImage, EachImage, IsSound, on_file, with_op, created, names_synced}
 use Rattle.pt_host.specs.World.{World, IsQuiet, FailedWrite, after_fs, after_write, after_sync, after_sync_names}
@@ -8,12 +8,12 @@ use Rattle.pt_host.specs.Images.{IsOwner, IsHeld, AreSame, OnlyAt, Does, Tears, 
 use Rattle.pt_host.specs.Replacement.{AsBeforeBut, Replaces, IsBeforeOrAfter, IsClear, IsDraft, IsReady}
 use Rattle.pt_host.proofs.Names.{put_same, put_other, put_some, kept_push, survives_none, names_after-push}
 use Rattle.pt_host.proofs.Sound.{shown_object}
-use Rattle.pt_host.proofs.Images.{this_object, may_hold_synced, owner_file}
+use Rattle.pt_host.proofs.Images.{read, this_object, may_hold_synced, owner_file}
 use Rattle.pt_host.proofs.Runs.{quiet_same, quiet_weaken, follows_here, follows_weaken, follows_then}
 use Rattle.pt_host.proofs.Writes.{overwrite_end}
 use Rattle.pt_host.proofs.Tears.{write_step, failed_write_step, sync_step}
 use Rattle.pt_host.proofs.Operations.{unlink_step, create_step, rename_step, sync_names_step}
-use Rattle.pt_host.proofs.Shown.{moved_sure, moved_gone}
+use Rattle.pt_host.proofs.Shown.{shown_some, shown_within, moved_sure, moved_gone}
 
 -- # Steps that leave all names but one alone
 
@@ -139,8 +139,22 @@ filled a b c d name bytes sound clear made put_in kept =
     ready_after_sync c d name bytes
     (subst (λ file. IsDraft c.now.fs name file) (overwrite_end bytes []) (draft_after_write b c name [] 0 bytes (draft_after_create a b name sound clear made) put_in)) kept
 
+-- # What calls ask
+
+pub clear_none : (fs : Fs) (name : List ℕ) → IsClear fs name → shown fs name ≡ None
+clear_none fs name clear = rw clear.settled (ap (read fs.objects) clear.none)
+
 pub draft_shown : (fs : Fs) (name file : List ℕ) → IsDraft fs name file → shown fs name ≡ Some file
 draft_shown fs name file draft = shown_object fs name draft.object draft.owner.now ∙ ap Some draft.bytes
+
+pub draft_some : (fs : Fs) (name file : List ℕ) → IsDraft fs name file → IsSome (shown fs name)
+draft_some fs name file draft = shown_some fs name file (draft_shown fs name file draft)
+
+pub draft_within : (fs : Fs) (name file : List ℕ) (at : ℕ) → IsDraft fs name file → at ≤ length file → IsSomeAnd (shown fs name) (λ bytes. at ≤ length bytes)
+draft_within fs name file at draft = shown_within fs name file at (draft_shown fs name file draft)
+
+pub ready_some : (fs : Fs) (name bytes : List ℕ) → IsReady fs name bytes → IsSome (shown fs name)
+ready_some fs name bytes ready = shown_some fs name (fs.objects ready.object).bytes (shown_object fs name ready.object ready.owner.now)
 
 -- # The rename
 
