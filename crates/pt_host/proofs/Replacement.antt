@@ -212,6 +212,14 @@ swapped fs from name bytes ready = moved_sure fs from name bytes ready.object re
 pub shadow_gone : (fs : Fs) (from name bytes : List ℕ) → from ≢ name → IsReady fs from bytes → EachImage (names_synced (with_op (Rename from name) fs)) (λ files. files from ≡ None)
 shadow_gone fs from name bytes differ ready = moved_gone fs from name ready.object differ ready.owner.now
 
+pub swapped_after : (a b c : World) (from name bytes : List ℕ) → IsReady a.now.fs from bytes → b ≡ after_fs (with_op (Rename from name) a.now.fs) a → c ≡ after_sync_names b → IsHeld c.now.fs name bytes
+swapped_after a b c from name bytes ready renamed kept =
+    subst (λ (w : World). IsHeld w.now.fs name bytes) (sym (kept ∙ ap after_sync_names renamed)) (swapped a.now.fs from name bytes ready)
+
+pub shadow_gone_after : (a b c : World) (from name bytes : List ℕ) → from ≢ name → IsReady a.now.fs from bytes → b ≡ after_fs (with_op (Rename from name) a.now.fs) a → c ≡ after_sync_names b → EachImage c.now.fs (λ files. files from ≡ None)
+shadow_gone_after a b c from name bytes differ ready renamed kept =
+    subst (λ (w : World). EachImage w.now.fs (λ files. files from ≡ None)) (sym (kept ∙ ap after_sync_names renamed)) (shadow_gone a.now.fs from name bytes differ ready)
+
 -- # One step after another
 
 pub but_either : (a b : World) (name shadow bytes : List ℕ) → name ≢ shadow → IsQuiet a b (AsBeforeBut a.now.fs shadow) → IsQuiet a b (IsBeforeOrAfter a.now.fs name shadow bytes)
