@@ -1,0 +1,12 @@
+pub mod Overwrites
+pub mod Exits
+pub mod Numbers
+pub mod Tests
+pub mod Lexing
+pub mod Sound
+pub mod Complete
+pub mod Cuts
+pub mod TakingLemmas
+pub mod InputLemmas
+pub mod AnswerLemmas
+pub mod SayingLemmas

@@ -1,0 +1,11 @@
+pub mod Endings
+pub mod Causes
+pub mod Symbols
+pub mod Reading
+pub mod Reader
+pub mod Script
+pub mod Taking
+pub mod Input
+pub mod Answers
+pub mod Saying
+pub mod Run

@@ -1,0 +1,51 @@
+ghost use Rattle.std.specs.Prelude.{◌≡◌, ◌⊎◌, ◌≤◌, IfOk, IfErr, OnErr};
+ghost use Rattle.pt_host.specs.World.{Rose};
+ghost use Rattle.pt_engine.specs.Input.{TakesOnly, TakesScript};
+
+use crate::Ending;
+use crate::script::Script;
+use pt_flat::Bin;
+use pt_host::Host;
+use pt_plain::List;
+use std::alloc::Global;
+
+/// What was taken of the input.
+#[derive(Drop)]
+pub(crate) struct Taken {
+    /// The statements before the first byte that passes a limit, or all of them.
+    pub(crate) statements: List<Bin>,
+    /// Whether a byte passes a limit.
+    pub(crate) too_long: bool,
+}
+
+/// Takes the input to its end, or to the first byte that passes a limit.
+pub(crate) fn take_script<H: Host>(alloc: Global, host: &mut H) -> Result<Taken, Ending>
+    ensures ok { IfOk result (λ taken. H.tells → TakesScript (H.world host.old) (H.world host.new) taken) }
+    ensures err { OnErr result (H.tells → TakesOnly (H.world host.old) (H.world host.new)) }
+    ensures input { IfErr result (λ ending. (ending ≡ Ending.NoMemory) ⊎ ((ending ≡ Ending.InputFault) × Rose (H.in_faults host.old) (H.in_faults host.new))) }
+    ensures later { H.in_faults host.old ≤ H.in_faults host.new }
+    ensures disk { H.disk_faults host.new ≡ H.disk_faults host.old }
+    ensures output { H.out_faults host.new ≡ H.out_faults host.old }
+{
+    let mut script = Script::new(alloc);
+    let mut chunk = [0u8; 4096];
+    loop {
+        let count = match host.take(&mut chunk) {
+            Ok(count) => count,
+            Err(_) => return Err(Ending::InputFault),
+        };
+        if count == 0 {
+            script.end()?;
+            return Ok(Taken {
+                statements: script.into_statements(),
+                too_long: false,
+            });
+        }
+        if !script.feed(&chunk[..count])? {
+            return Ok(Taken {
+                statements: script.into_statements(),
+                too_long: true,
+            });
+        }
+    }
+}
