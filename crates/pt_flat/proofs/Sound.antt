@@ -16,7 +16,7 @@ use Rattle.pt_flat.specs.declared.data.Table.{Table}
 use Rattle.pt_flat.specs.declared.data.Db.{Db}
 use Rattle.pt_flat.specs.declared.data.Stmt.TheVariants.{Create, Insert, Select}
 use Rattle.pt_flat.specs.Word.{IsWord}
-use Rattle.pt_flat.specs.Step.{is_int, has_table, with_table, with_row, changed, after}
+use Rattle.pt_flat.specs.Step.{is_int, has_table, with_table, with_one, with_row, changed, after}
 use Rattle.pt_flat.specs.Sound.{IsSound, IsSoundTable, serials}
 use Rattle.pt_flat.proofs.Rising.{sorted_nil, sorted_push, passing_le, placed, rising_placed}
 use Rattle.pt_flat.proofs.Pairs.{all_left, all_right, all_flat_map, pairs_between}
@@ -51,10 +51,6 @@ new_table next name column is_name is_column = record {
   below = λ k d below. absurd (omega arith);
   rising = sorted_nil nat_cmp;
 }
-
--- the table with a row more
-abbrev pub with_one : ℕ × ℤ → Table → Table
-with_one row table = record table { rows = table.rows ++ row ∷ [] }
 
 below_next : (next : ℕ) (xs : List ℕ) → All (λ serial. serial < next) xs → AllByRecursion (λ serial. nat_cmp serial next ≡ Less) xs
 below_next next xs h =
@@ -112,7 +108,7 @@ sound_created db name column sound absent is_name is_column =
       most = sound.most;
     }
 
-abbrev no_table : Table
+abbrev pub no_table : Table
 no_table = record { name = []; column = []; rows = [] }
 
 -- a row goes to the one table of that name
@@ -188,15 +184,13 @@ sound_inserted db name value i sound at fits room =
     }
 
 -- the database with the row pushed at the table's place
-pub inserted : (db : Db) (name : List ℕ) (value : ℤ) (i : ℕ) (item : Table) (rows : List (ℕ × ℤ)) → IsSound db
+pub inserted : (db : Db) (name : List ℕ) (value : ℤ) (i : ℕ) (d : Table) (tables : List Table) → IsSound db
     → position (λ table. bytes_eq table.name name) db.tables ≡ Some i
-    → item ≡ get_or db.tables i item → rows ≡ item.rows ++ (db.next, value) ∷ []
-    → changed db (Insert name value) ≡ record { tables = set db.tables i (record { name = item.name; column = item.column; rows = rows }); next = db.next + 1 }
-inserted db name value i item rows sound at read pushed =
-    ap (λ (tables : List Table). let it : Db = record { tables = tables; next = db.next + 1 } in it)
-    (with_row_is name (db.next, value) db.tables i item sound.rising at
-    ∙ ap (λ (table : Table). set db.tables i (with_one (db.next, value) table)) (sym read)
-    ∙ ap (λ (xs : List (ℕ × ℤ)). set db.tables i (record { name = item.name; column = item.column; rows = xs })) (sym pushed))
+    → tables ≡ set db.tables i (with_one (db.next, value) (get_or db.tables i d))
+    → changed db (Insert name value) ≡ record { tables = tables; next = db.next + 1 }
+inserted db name value i d tables sound at pushed =
+    ap (λ (all : List Table). let it : Db = record { tables = all; next = db.next + 1 } in it)
+    (with_row_is name (db.next, value) db.tables i d sound.rising at ∙ sym pushed)
 
 -- an INSERT that isn't refused leaves what it changes
 pub after_inserted : (db : Db) (name : List ℕ) (value : ℤ) → has_table db name ≡ true → is_int value ≡ true → db.next < 2 ^ 62

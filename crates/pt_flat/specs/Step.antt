@@ -38,9 +38,13 @@ with_table table tables =
   filter (λ other. is_lt (slice_cmp nat_cmp other.name table.name)) tables
   ++ table ∷ filter (λ other. is_gt (slice_cmp nat_cmp other.name table.name)) tables
 
+-- with a row more at its end
+abbrev pub with_one : ℕ × ℤ → Table → Table
+with_one row table = record table { rows = table.rows ++ row ∷ [] }
+
 -- with a row more in the table of that name
 abbrev pub with_row : List ℕ → ℕ × ℤ → List Table → List Table
-with_row name row tables = map (λ table. cond (bytes_eq table.name name) (record table { rows = table.rows ++ row ∷ [] }) table) tables
+with_row name row tables = map (λ table. cond (bytes_eq table.name name) (with_one row table) table) tables
 
 -- what a statement that isn't refused leaves
 abbrev pub changed : Db → Stmt → Db
