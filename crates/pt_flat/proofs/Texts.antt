@@ -1,16 +1,15 @@
 -- Every answer has a text of at least one byte.
-use Rattle.std.proofs.Common.{ℕ, ◌+◌, ◌^◌, ◌<◌, nat_le, Bool, true, false, cond, not, List, [], ◌∷◌, ◌++◌, length, codes, Option, Some, None, unwrap_or, arith, length-append}
+use Rattle.std.proofs.Common.{ℕ, ◌^◌, ◌<◌, nat_le, Bool, true, false, cond, not, List, [], ◌∷◌, ◌++◌, length, codes, Option, Some, None, unwrap_or, arith, length-append}
 use Rattle.std.proofs.lemmas.List.{length_push}
 use Rattle.std.specs.Option.{is_some, option_map_or}
 use Rattle.std.specs.List.{flat_map}
 use Rattle.std.specs.Fmt.{decimal, signed_decimal}
 use Rattle.pt_flat.specs.declared.data.Table.{Table}
 use Rattle.pt_flat.specs.declared.data.Db.{Db}
-use Rattle.pt_flat.specs.declared.data.Reply.{Reply}
 use Rattle.pt_flat.specs.declared.data.Stmt.{Stmt}
 use Rattle.pt_flat.specs.declared.data.Stmt.TheVariants.{Create, Insert, Select}
 use Rattle.pt_flat.specs.Answer.{answered, line, refused, syntax, table_exists, no_such_table, out_of_range, serials_used, rows_text}
-use Rattle.pt_flat.specs.Step.{has_table, table_of, is_int, refusal, answer, reply_to}
+use Rattle.pt_flat.specs.Step.{has_table, table_of, is_int, reply_to}
 
 some_line : (text : List ℕ) → 0 < length (text ++ 10 ∷ [])
 some_line text = omega (arith, length_push text 10)

@@ -27,16 +27,16 @@ is_int (negsuc n) = nat_lt n 2147483648
 abbrev pub refusal : Db → Stmt → Option Reply
 refusal db (Create table column) = cond (has_table db table) (Some (table_exists table)) None
 refusal db (Insert table value) =
-  cond (not (has_table db table)) (Some (no_such_table table))
-  (cond (not (is_int value)) (Some (out_of_range 1))
-  (cond (nat_le (2 ^ 62) db.next) (Some (serials_used 1)) None))
+    cond (not (has_table db table)) (Some (no_such_table table))
+    (cond (not (is_int value)) (Some (out_of_range 1))
+    (cond (nat_le (2 ^ 62) db.next) (Some (serials_used 1)) None))
 refusal db (Select table) = cond (not (has_table db table)) (Some (no_such_table table)) None
 
 -- with a table more, in its place
 abbrev pub with_table : Table → List Table → List Table
 with_table table tables =
-  filter (λ other. is_lt (slice_cmp nat_cmp other.name table.name)) tables
-  ++ table ∷ filter (λ other. is_gt (slice_cmp nat_cmp other.name table.name)) tables
+    filter (λ other. is_lt (slice_cmp nat_cmp other.name table.name)) tables
+    ++ table ∷ filter (λ other. is_gt (slice_cmp nat_cmp other.name table.name)) tables
 
 -- with a row more at its end
 abbrev pub with_one : ℕ × ℤ → Table → Table
