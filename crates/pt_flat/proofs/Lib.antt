@@ -3,3 +3,4 @@ pub mod Pairs
 pub mod Updated
 pub mod Named
 pub mod Sound
+pub mod Texts

@@ -1,5 +1,5 @@
 -- Lists whose elements have names in rising byte order: a name stands at one place.
-use Rattle.std.proofs.Common.{◌≡◌, ◌≢◌, ℕ, ◌<◌, Bool, true, false, List, [], ◌∷◌, map, length, get_or, Some, None, Option, refl, sym, ap, ◌∙◌, subst, arith, inl, inr, Ordering, Less, Equal, Greater}
+use Rattle.std.proofs.Common.{◌≡◌, ◌≢◌, ℕ, ◌<◌, Bool, true, false, List, [], ◌∷◌, map, length, get_or, Some, refl, sym, ap, ◌∙◌, subst, arith, inl, inr, Less, Equal}
 use Rattle.std.specs.Ordering.{ordering_reverse, nat_cmp, is_eq}
 use Rattle.std.specs.Cmp.Lexicographic.{slice_cmp}
 use Rattle.std.specs.Str.{bytes_eq}
@@ -46,18 +46,18 @@ module _ {X : Type 0} (name_of : X → List ℕ) (name : List ℕ) where
       let found = position-Some named xs i e at in
       let is : name_of (get_or xs i e) ≡ name = (bytes_eq-Decides (name_of (get_or xs i e)) name).0 found.1 in
       elim (cases_lt k i) [
-        inl before ↦ found.2 k before
+        | inl before ↦ found.2 k before
         | inr after ↦
-        let less : slice_cmp nat_cmp (get_or (map name_of xs) i (name_of e)) (get_or (map name_of xs) k (name_of e)) ≡ Less =
-          Less-from_sorted (slice_cmp nat_cmp) (map name_of xs) i k (name_of e) rising (omega arith) (omega (arith, length-map xs name_of)) in
-        subst (λ n. bytes_eq (name_of (get_or xs k e)) n ≡ false) is
-        (names_differ_back (name_of (get_or xs i e)) (name_of (get_or xs k e))
-        (rw (get_or-map name_of xs i e (name_of e) found.0, get_or-map name_of xs k e (name_of e) within) at less))
+            let less : slice_cmp nat_cmp (get_or (map name_of xs) i (name_of e)) (get_or (map name_of xs) k (name_of e)) ≡ Less =
+            Less-from_sorted (slice_cmp nat_cmp) (map name_of xs) i k (name_of e) rising (omega arith) (omega (arith, length-map xs name_of)) in
+            subst (λ n. bytes_eq (name_of (get_or xs k e)) n ≡ false) is
+            (names_differ_back (name_of (get_or xs i e)) (name_of (get_or xs k e))
+            (rw (get_or-map name_of xs i e (name_of e) found.0, get_or-map name_of xs k e (name_of e) within) at less))
       ]
 
   -- a search for an element and one for its place find alike
   pub found_place : (xs : List X) → is_some (find (λ x. bytes_eq (name_of x) name) xs) ≡ is_some (position (λ x. bytes_eq (name_of x) name) xs)
   found_place xs = elim (slice_get_cases xs (position_or_len named xs)).1 [
-      inl w ↦ rw (find_at named xs, w.2, lt-ltb (position_or_len named xs) (length xs) w.1) refl
-      | inr w ↦ rw (find_at named xs, w.1, le-ltb (position_or_len named xs) (length xs) w.0) refl
-    ]
+    | inl w ↦ rw (find_at named xs, w.2, lt-ltb (position_or_len named xs) (length xs) w.1) refl
+    | inr w ↦ rw (find_at named xs, w.1, le-ltb (position_or_len named xs) (length xs) w.0) refl
+  ]

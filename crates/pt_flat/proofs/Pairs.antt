@@ -1,5 +1,5 @@
 -- What holds of each element and of each two elements, where one more element stands in between.
-use Rattle.std.proofs.Common.{ℕ, suc, ◌+◌, ◌<◌, List, [], ◌∷◌, ◌++◌, length, subst, arith, length-append}
+use Rattle.std.proofs.Common.{suc, ◌+◌, ◌<◌, List, [], ◌∷◌, ◌++◌, length, subst, arith, length-append}
 use Rattle.std.specs.List.{All, AllPairs, flat_map}
 use Rattle.std.proofs.lemmas.List.{get_or_append_left, get_or-append-add}
 use Rattle.std.proofs.lemmas.List.Elements.{All-nil, All-append, All-cons, All-head, All-tail}

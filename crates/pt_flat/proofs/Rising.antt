@@ -1,13 +1,12 @@
 -- Lists that rise strictly by a key, and one more element in its place.
-use Rattle.std.proofs.Common.{◌≡◌, ◌≢◌, ℕ, ◌<◌, ◌≤◌, Bool, true, false, not, List, [], ◌∷◌, ◌++◌, map, length, take, drop, get_or, refl, sym, ap, ◌∙◌, subst, arith, Ordering, Less, Equal, Greater}
-use Rattle.std.specs.List.{filter, insert, All, AllPairs, AllByRecursion}
+use Rattle.std.proofs.Common.{◌≡◌, ◌≢◌, ℕ, ◌≤◌, Bool, not, List, [], ◌∷◌, ◌++◌, map, length, refl, ap, ◌∙◌, arith, Ordering, Less, Equal, Greater}
+use Rattle.std.specs.List.{filter, insert, All, AllByRecursion}
 use Rattle.std.specs.List.Sorted.{IsStrictlySortedBy}
 use Rattle.std.specs.Cmp.{IsTotalOrder}
-use Rattle.std.specs.Ordering.{ordering_reverse, is_lt, is_gt, nat_cmp}
+use Rattle.std.specs.Ordering.{ordering_reverse, is_lt, is_gt}
 use Rattle.std.proofs.lemmas.List.Elements.{All-from_recursion, recursion_from_All, All-append, All-cons, All-map, All-filter}
 use Rattle.std.proofs.lemmas.List.Filters.{length-filter_both}
-use Rattle.std.proofs.lemmas.Map.Keys.{sorted_head, sorted_tail, Less-from_sorted}
-use Rattle.std.proofs.lemmas.List.{length-map, get_or-map, map-append}
+use Rattle.std.proofs.lemmas.Map.Keys.{sorted_head, sorted_tail}
 
 pub sorted_cons : {K : Type 0} (cmp : K → K → Ordering) (x : K) (xs : List K) → AllByRecursion (λ y. cmp x y ≡ Less) xs → IsStrictlySortedBy cmp xs → IsStrictlySortedBy cmp (x ∷ xs)
 unfolding IsStrictlySortedBy
@@ -88,8 +87,8 @@ module _ {X K : Type 0} (cmp : K → K → Ordering) (order : IsTotalOrder cmp) 
       let later : All (λ z. cmp (key x) (key z) ≡ Less) xs = All-from_recursion (λ z. cmp (key x) (key z) ≡ Less) xs (over_keys (λ k. cmp (key x) k ≡ Less) xs (sorted_head cmp (key x) (map key xs) rising)) in
       let new : cmp (key x) (key y) ≡ Less = ap (cmp (key x)) is ∙ e in
       let all : All (λ z. cmp (key x) (key z) ≡ Less) (filter below xs ++ y ∷ filter above xs) =
-        All-append (λ z. cmp (key x) (key z) ≡ Less) (filter below xs) (y ∷ filter above xs) (All-filter below (λ z. cmp (key x) (key z) ≡ Less) xs later)
-        (All-cons (λ z. cmp (key x) (key z) ≡ Less) y (filter above xs) new (All-filter above (λ z. cmp (key x) (key z) ≡ Less) xs later)) in
+      All-append (λ z. cmp (key x) (key z) ≡ Less) (filter below xs) (y ∷ filter above xs) (All-filter below (λ z. cmp (key x) (key z) ≡ Less) xs later)
+      (All-cons (λ z. cmp (key x) (key z) ≡ Less) y (filter above xs) new (All-filter above (λ z. cmp (key x) (key z) ≡ Less) xs later)) in
       rw e (sorted_cons cmp (key x) (map key (filter below xs ++ y ∷ filter above xs))
       (recursion_from_All (λ k. cmp (key x) k ≡ Less) (map key (filter below xs ++ y ∷ filter above xs)) (All-map (λ k. cmp (key x) k ≡ Less) key (filter below xs ++ y ∷ filter above xs) all)) rest)
   step_rising x xs y Equal e is rising apart rest = absurd (apart e)

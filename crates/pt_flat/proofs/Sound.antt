@@ -1,5 +1,5 @@
 -- What a statement leaves of a sound database is sound.
-use Rattle.std.proofs.Common.{◌≡◌, ◌≢◌, ℕ, suc, ◌+◌, ◌-◌, ◌<◌, ◌≤◌, ◌^◌, Bool, true, false, cond, IsTrue, ℤ, List, [], ◌∷◌, ◌++◌, map, length, take, drop, set, get_or, Some, None, refl, sym, ap, ◌∙◌, subst, arith, rules, Less, Equal}
+use Rattle.std.proofs.Common.{◌≡◌, ◌≢◌, ℕ, suc, ◌+◌, ◌-◌, ◌<◌, ◌≤◌, ◌^◌, true, false, IsTrue, ℤ, List, [], ◌∷◌, ◌++◌, map, length, take, drop, set, get_or, Some, refl, sym, ap, ◌∙◌, subst, arith, Less}
 use Rattle.std.specs.List.{All, AllPairs, AllByRecursion, flat_map, filter, insert, find, position}
 use Rattle.std.specs.List.Sorted.{IsStrictlySortedBy}
 use Rattle.std.specs.Ordering.{nat_cmp, is_lt, is_gt}
@@ -8,20 +8,20 @@ use Rattle.std.specs.Option.{is_some}
 use Rattle.std.specs.Str.{bytes_eq}
 use Rattle.std.proofs.lemmas.Bool.{lt-ltb, le-ltb}
 use Rattle.std.proofs.lemmas.Cmp.{nat_list_cmp_total}
-use Rattle.std.proofs.lemmas.List.{map_push, map-append, map-set, set-get_or, set_split, take-append-drop, append_assoc, drop_more, get_or-map}
-use Rattle.std.proofs.lemmas.List.Concat.{flat_map-append, flat_map-cons}
+use Rattle.std.proofs.lemmas.List.{map_push, map-set, set-get_or, set_split, take-append-drop, append_assoc}
+use Rattle.std.proofs.lemmas.List.Concat.{flat_map-append}
 use Rattle.std.proofs.lemmas.List.Elements.{All-nil, All-push, All-weaker, All-append, All-cons, All-set, All-filter, recursion_from_All, All-get_or}
 use Rattle.std.proofs.lemmas.List.Quantifiers.{position-Some}
 use Rattle.pt_flat.specs.declared.data.Table.{Table}
 use Rattle.pt_flat.specs.declared.data.Db.{Db}
-use Rattle.pt_flat.specs.declared.data.Stmt.TheVariants.{Create, Insert, Select}
+use Rattle.pt_flat.specs.declared.data.Stmt.TheVariants.{Create, Insert}
 use Rattle.pt_flat.specs.Word.{IsWord}
-use Rattle.pt_flat.specs.Step.{is_int, has_table, with_table, with_row, changed, after}
+use Rattle.pt_flat.specs.Step.{is_int, has_table, with_table, with_one, with_row, changed, after}
 use Rattle.pt_flat.specs.Sound.{IsSound, IsSoundTable, serials}
 use Rattle.pt_flat.proofs.Rising.{sorted_nil, sorted_push, passing_le, placed, rising_placed}
 use Rattle.pt_flat.proofs.Pairs.{all_left, all_right, all_flat_map, pairs_between}
 use Rattle.pt_flat.proofs.Updated.{one_changed}
-use Rattle.pt_flat.proofs.Named.{none_ties, one_place}
+use Rattle.pt_flat.proofs.Named.{none_ties, one_place, found_place}
 
 pub sound_empty : IsSound (record { tables = []; next = 1 })
 sound_empty = record {
@@ -51,10 +51,6 @@ new_table next name column is_name is_column = record {
   below = λ k d below. absurd (omega arith);
   rising = sorted_nil nat_cmp;
 }
-
--- the table with a row more
-abbrev pub with_one : ℕ × ℤ → Table → Table
-with_one row table = record table { rows = table.rows ++ row ∷ [] }
 
 below_next : (next : ℕ) (xs : List ℕ) → All (λ serial. serial < next) xs → AllByRecursion (λ serial. nat_cmp serial next ≡ Less) xs
 below_next next xs h =
@@ -112,7 +108,7 @@ sound_created db name column sound absent is_name is_column =
       most = sound.most;
     }
 
-abbrev no_table : Table
+abbrev pub no_table : Table
 no_table = record { name = []; column = []; rows = [] }
 
 -- a row goes to the one table of that name
@@ -138,7 +134,7 @@ serials_of tables i d within =
 
 serials_with_one : (tables : List Table) (i : ℕ) (d : Table) (row : ℕ × ℤ) → i < length tables
     → flat_map serials (set tables i (with_one row (get_or tables i d)))
-      ≡ (flat_map serials (take i tables) ++ serials (get_or tables i d)) ++ row.0 ∷ flat_map serials (drop (suc i) tables)
+    ≡ (flat_map serials (take i tables) ++ serials (get_or tables i d)) ++ row.0 ∷ flat_map serials (drop (suc i) tables)
 serials_with_one tables i d row within =
     let table : Table = get_or tables i d in
     let before : List ℕ = flat_map serials (take i tables) in
@@ -163,7 +159,7 @@ once_with_one next value tables i d within sound once =
     let before : List ℕ = flat_map serials (take i tables) ++ serials (get_or tables i d) in
     let after : List ℕ = flat_map serials (drop (suc i) tables) in
     let all : All (λ serial. serial < next) (flat_map serials tables) =
-      all_flat_map (λ serial. serial < next) serials tables (All-weaker (IsSoundTable next) (λ table. All (λ serial. serial < next) (serials table)) (λ table s. s.below) tables sound) in
+    all_flat_map (λ serial. serial < next) serials tables (All-weaker (IsSoundTable next) (λ table. All (λ serial. serial < next) (serials table)) (λ table s. s.below) tables sound) in
     let parted : All (λ serial. serial < next) (before ++ after) = rw (serials_of tables i d within) at all in
     let pairs : AllPairs (λ (a b : ℕ). a ≢ b) (before ++ after) = rw (serials_of tables i d within) at once in
     rw (serials_with_one tables i d (next, value) within)
@@ -171,12 +167,12 @@ once_with_one next value tables i d within sound once =
     (All-weaker (λ serial. serial < next) (λ serial. serial ≢ next) (λ serial l e. omega arith) before (all_left (λ serial. serial < next) before after parted))
     (All-weaker (λ serial. serial < next) (λ serial. next ≢ serial) (λ serial l e. omega arith) after (all_right (λ serial. serial < next) before after parted)))
 
-pub sound_inserted : (db : Db) (name : List ℕ) (value : ℤ) (i : ℕ) → IsSound db → position (λ table. bytes_eq table.name name) db.tables ≡ Some i
+sound_inserted : (db : Db) (name : List ℕ) (value : ℤ) (i : ℕ) → IsSound db → position (λ table. bytes_eq table.name name) db.tables ≡ Some i
     → is_int value ≡ true → db.next < 2 ^ 62 → IsSound (changed db (Insert name value))
 sound_inserted db name value i sound at fits room =
     let found = position-Some (λ (table : Table). bytes_eq table.name name) db.tables i no_table at in
     let is : with_row name (db.next, value) db.tables ≡ set db.tables i (with_one (db.next, value) (get_or db.tables i no_table)) =
-      with_row_is name (db.next, value) db.tables i no_table sound.rising at in
+    with_row_is name (db.next, value) db.tables i no_table sound.rising at in
     record {
       tables = rw is (All-set (IsSoundTable (db.next + 1)) db.tables i (with_one (db.next, value) (get_or db.tables i no_table))
           (pushed_table db.next value (get_or db.tables i no_table) (All-get_or (IsSoundTable db.next) db.tables i no_table found.0 sound.tables) sound.some fits)
@@ -187,18 +183,20 @@ sound_inserted db name value i sound at fits room =
       most = omega arith;
     }
 
--- the database with the row pushed at the table's place
-pub inserted : (db : Db) (name : List ℕ) (value : ℤ) (i : ℕ) (item : Table) (rows : List (ℕ × ℤ)) → IsSound db
-    → position (λ table. bytes_eq table.name name) db.tables ≡ Some i
-    → item ≡ get_or db.tables i item → rows ≡ item.rows ++ (db.next, value) ∷ []
-    → changed db (Insert name value) ≡ record { tables = set db.tables i (record { name = item.name; column = item.column; rows = rows }); next = db.next + 1 }
-inserted db name value i item rows sound at read pushed =
-    ap (λ (tables : List Table). let it : Db = record { tables = tables; next = db.next + 1 } in it)
-    (with_row_is name (db.next, value) db.tables i item sound.rising at
-    ∙ ap (λ (table : Table). set db.tables i (with_one (db.next, value) table)) (sym read)
-    ∙ ap (λ (xs : List (ℕ × ℤ)). set db.tables i (record { name = item.name; column = item.column; rows = xs })) (sym pushed))
-
 -- an INSERT that isn't refused leaves what it changes
-pub after_inserted : (db : Db) (name : List ℕ) (value : ℤ) → has_table db name ≡ true → is_int value ≡ true → db.next < 2 ^ 62
+after_inserted : (db : Db) (name : List ℕ) (value : ℤ) → has_table db name ≡ true → is_int value ≡ true → db.next < 2 ^ 62
     → after db (Insert name value) ≡ changed db (Insert name value)
 after_inserted db name value there fits room = rw (there, fits, le-ltb (2 ^ 62 - 1) db.next (omega arith)) refl
+
+-- the database with the row at the end of the table at its place
+pub inserted : (db : Db) (name : List ℕ) (value : ℤ) (i : ℕ) (d : Table) (tables : List Table) → IsSound db
+    → position (λ table. bytes_eq table.name name) db.tables ≡ Some i
+    → is_int value ≡ true → db.next < 2 ^ 62
+    → tables ≡ set db.tables i (with_one (db.next, value) (get_or db.tables i d))
+    → (record { tables = tables; next = db.next + 1 } ≡ after db (Insert name value)) × IsSound (record { tables = tables; next = db.next + 1 })
+inserted db name value i d tables sound at fits room pushed =
+    let there : has_table db name ≡ true = found_place (λ (table : Table). table.name) name db.tables ∙ ap is_some at in
+    let is : changed db (Insert name value) ≡ record { tables = tables; next = db.next + 1 } =
+    ap (λ (all : List Table). let it : Db = record { tables = all; next = db.next + 1 } in it)
+    (with_row_is name (db.next, value) db.tables i d sound.rising at ∙ sym pushed) in
+    (sym (after_inserted db name value there fits room ∙ is), subst IsSound is (sound_inserted db name value i sound at fits room))

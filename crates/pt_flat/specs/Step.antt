@@ -27,20 +27,24 @@ is_int (negsuc n) = nat_lt n 2147483648
 abbrev pub refusal : Db → Stmt → Option Reply
 refusal db (Create table column) = cond (has_table db table) (Some (table_exists table)) None
 refusal db (Insert table value) =
-  cond (not (has_table db table)) (Some (no_such_table table))
-  (cond (not (is_int value)) (Some (out_of_range 1))
-  (cond (nat_le (2 ^ 62) db.next) (Some (serials_used 1)) None))
+    cond (not (has_table db table)) (Some (no_such_table table))
+    (cond (not (is_int value)) (Some (out_of_range 1))
+    (cond (nat_le (2 ^ 62) db.next) (Some (serials_used 1)) None))
 refusal db (Select table) = cond (not (has_table db table)) (Some (no_such_table table)) None
 
 -- with a table more, in its place
 abbrev pub with_table : Table → List Table → List Table
 with_table table tables =
-  filter (λ other. is_lt (slice_cmp nat_cmp other.name table.name)) tables
-  ++ table ∷ filter (λ other. is_gt (slice_cmp nat_cmp other.name table.name)) tables
+    filter (λ other. is_lt (slice_cmp nat_cmp other.name table.name)) tables
+    ++ table ∷ filter (λ other. is_gt (slice_cmp nat_cmp other.name table.name)) tables
+
+-- with a row more at its end
+abbrev pub with_one : ℕ × ℤ → Table → Table
+with_one row table = record table { rows = table.rows ++ row ∷ [] }
 
 -- with a row more in the table of that name
 abbrev pub with_row : List ℕ → ℕ × ℤ → List Table → List Table
-with_row name row tables = map (λ table. cond (bytes_eq table.name name) (record table { rows = table.rows ++ row ∷ [] }) table) tables
+with_row name row tables = map (λ table. cond (bytes_eq table.name name) (with_one row table) table) tables
 
 -- what a statement that isn't refused leaves
 abbrev pub changed : Db → Stmt → Db

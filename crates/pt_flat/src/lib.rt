@@ -1,18 +1,20 @@
 //! The engine's model: tables as flat lists of rows, and the step that a statement takes on them.
 //!
 //! - The plain data: `Word`, `Stmt`, `Table`, `Db`, `Bin`, `Reply`.
-//! - The model's step is defined in `specs/Step.antt`: what each statement answers, and the database that it leaves.
+//! - `step` takes a statement: the reply is `reply_to` and the database that it leaves is `after`, both of `specs/Step.antt`.
+//!   What holds of every database is `IsSound`, of `specs/Sound.antt`: the empty one has it, and each step keeps it.
+//! - `syntax_reply` answers what spells no statement.
 //!
 //! It stands on `pt_plain`.
 #![tactic(auto)]
 
 mod data;
 mod lookup;
-mod reply;
 mod model;
+mod reply;
 mod word;
 
 pub use data::{Bin, Db, Reply, Rows, Stmt, Table, Tables};
-pub use reply::syntax_reply;
 pub use model::step;
+pub use reply::syntax_reply;
 pub use word::{Word, is_word_byte};

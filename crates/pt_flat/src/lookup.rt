@@ -1,4 +1,4 @@
-ghost use Rattle.std.specs.Prelude.{◌≡◌, length, filter, find};
+ghost use Rattle.std.specs.Prelude.{◌≡◌, ◌<◌, length, filter, find, IfSome};
 ghost use Rattle.std.specs.List.{position};
 ghost use Rattle.std.specs.Option.{is_some, option_copied};
 ghost use Rattle.std.specs.Str.{bytes_eq};
@@ -17,6 +17,7 @@ pub(crate) fn find_table<'a>(tables: &'a [Table], name: &Word) -> Option<&'a Tab
 /// The place of the table of this name.
 pub(crate) fn place_of(tables: &[Table], name: &Word) -> Option<usize>
     ensures value { result ≡ position (λ table. bytes_eq table.name name.now) tables.now }
+    ensures within { IfSome result (λ at. at < length tables.now) }
     ensures there { is_some result ≡ is_some (find (λ table. bytes_eq table.name name.now) tables.now) }
 {
     tables.iter().position(|table| table.name == *name)

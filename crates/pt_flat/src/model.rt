@@ -1,13 +1,13 @@
-ghost use Rattle.std.specs.Prelude.{◌≡◌, ℕ, ◌+◌, [], ◌∷◌, map, length, find, Some, None, IfOk, OnOk, OnErr, IfSome, IfNone, IsTrue, true, false};
-ghost use Rattle.std.specs.List.{position};
+ghost use Rattle.std.specs.Prelude.{◌≡◌, ◌<◌, [], map, length, find, slice_set, slice_index_or, IfOk, OnOk, OnErr, IfSome, IfNone, true, false};
 ghost use Rattle.std.specs.List.Sorted.{IsStrictlySortedBy};
 ghost use Rattle.std.specs.Str.{bytes_eq};
 ghost use Rattle.std.specs.Ordering.{nat_cmp};
 ghost use Rattle.std.specs.Cmp.Lexicographic.{slice_cmp};
 ghost use Rattle.std.specs.Option.{is_some};
+ghost use Rattle.pt_flat.specs.declared.data.Table.{Table};
 ghost use Rattle.pt_flat.specs.declared.data.Stmt.TheVariants.{Create, Insert, Select};
 ghost use Rattle.pt_flat.specs.Sound.{IsSound};
-ghost use Rattle.pt_flat.specs.Step.{after, has_table, is_int, reply_to, with_row, with_table};
+ghost use Rattle.pt_flat.specs.Step.{after, is_int, reply_to, with_one, with_table};
 
 use crate::lookup::{find_table, place_for, place_of};
 use crate::reply::{line_reply, refused_at, refused_for, rows_reply};
@@ -86,7 +86,7 @@ fn insert(alloc: Global, db: &mut Db, name: &Word, value: i64) -> Result<Reply, 
         return refused_at(alloc, 55, "serials_used", 1);
     }
     let reply = line_reply(alloc, "ok 1")?;
-    db.tables.item_mut(at).rows.push((db.next, value))?;
+    add_row(&mut db.tables, at, (db.next, value))?;
     db.next += 1;
     Ok(reply)
 }
@@ -109,6 +109,15 @@ fn add_table(tables: &mut Tables, table: Table) -> Result<(), AllocError>
 {
     let at = place_for(tables.items(), &table.name);
     tables.insert(at, table)
+}
+
+/// Puts a row at the end of the table at this place. Want of memory leaves the tables as they were.
+fn add_row(tables: &mut Tables, at: usize, row: (u64, i32)) -> Result<(), AllocError>
+    requires { at < length tables.old }
+    ensures ok { (table : Table) → OnOk result (tables.new ≡ slice_set tables.old at (with_one row (slice_index_or tables.old at table))) }
+    ensures err { OnErr result (tables.new ≡ tables.old) }
+{
+    tables.item_mut(at).rows.push(row)
 }
 
 /// The value as an INT. `None` exactly where it doesn't fit.

@@ -1,4 +1,4 @@
-use Rattle.std.proofs.Common.{◌≡◌, ap, sym, ◌∙◌, insert, arith, rules}
+use Rattle.std.proofs.Common.{◌≡◌, ap, sym, ◌∙◌, insert, rules}
 use Rattle.pt_flat.proofs.Sound.{place_in, place_within, with_table_is}
 use Rattle.pt_flat.proofs.model.add_table.Goals as goal
 
