@@ -11,7 +11,11 @@ use std::rt::Runtime;
 /// A real directory, standard input and standard output. It tells no content.
 ///
 /// Its three counts are 0 at first, rise by one at each failure of their calls, and stay at the last value of their type.
-/// Every failure is one of the system, of memory, or of a call that no directory was entered for.
+/// A call fails where the system or the memory does, where no directory was entered, at a name that is there but no regular
+/// file's, as a symbolic link, and at a write whose end would pass 2^62. Once a sync has failed each later sync fails, and
+/// so does `enter`.
+///
+/// Nothing else may change the directory as long as a host is in it. A host doesn't keep others out.
 #[derive(Drop)]
 pub struct DirHost<R: Runtime> {
     system: System<R>,

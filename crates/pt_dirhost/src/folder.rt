@@ -58,6 +58,15 @@ impl<R: Files> Folder<R> {
         fs::symlink_metadata(rt, path.as_str())
     }
 
+    /// The path of a regular file that is there.
+    pub(crate) fn path_of_file(&self, alloc: Global, rt: &R, name: &Name) -> io::Result<String> {
+        let path = self.path_of(alloc, name)?;
+        if !fs::symlink_metadata(rt, path.as_str())?.is_file() {
+            return Err(ErrorKind::InvalidInput.into());
+        }
+        Ok(path)
+    }
+
     /// Opens a regular file to read and write. A link that takes the name's place in the meantime is opened and refused,
     /// before anything is read or written.
     pub(crate) fn open_file(&self, alloc: Global, rt: &R, name: &Name) -> io::Result<R::File> {

@@ -126,15 +126,11 @@ impl<R: Runtime> System<R> {
         Ok(())
     }
 
-    /// It fails where `from` is no regular file's name.
     pub(crate) fn rename(&mut self, from: &Name, to: &Name) -> io::Result<()> {
         self.listed = None;
         self.held = None;
         let folder = self.entered()?;
-        if !folder.metadata(self.alloc, &self.rt, from)?.is_file() {
-            return Err(ErrorKind::InvalidInput.into());
-        }
-        let old_path = folder.path_of(self.alloc, from)?;
+        let old_path = folder.path_of_file(self.alloc, &self.rt, from)?;
         let new_path = folder.path_of(self.alloc, to)?;
         fs::rename(&self.rt, old_path.as_str(), new_path.as_str())
     }
@@ -142,7 +138,7 @@ impl<R: Runtime> System<R> {
     pub(crate) fn unlink(&mut self, name: &Name) -> io::Result<()> {
         self.listed = None;
         self.held = None;
-        let path = self.entered()?.path_of(self.alloc, name)?;
+        let path = self.entered()?.path_of_file(self.alloc, &self.rt, name)?;
         fs::remove_file(&self.rt, path.as_str())
     }
 
