@@ -1,0 +1,5 @@
+pub mod Named
+pub mod Held
+pub mod Mirrored
+pub mod Story
+pub mod Places

@@ -1,0 +1,6 @@
+pub mod Names
+pub mod Held
+pub mod Story
+pub mod State
+pub mod Memory
+pub mod Law
