@@ -3,3 +3,4 @@ pub mod Held
 pub mod Mirrored
 pub mod Story
 pub mod Places
+pub mod Halves
