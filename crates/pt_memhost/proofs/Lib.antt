@@ -4,3 +4,5 @@ pub mod Mirrored
 pub mod Story
 pub mod Places
 pub mod Halves
+pub mod Filled
+pub mod Picked

@@ -4,4 +4,5 @@ pub mod Story
 pub mod State
 pub mod Memory
 pub mod Turns
+pub mod Pick
 pub mod Law

@@ -1,6 +1,8 @@
-ghost use Rattle.std.specs.Prelude.{◌≡◌, [], IfOk, ℕ, List as Listed};
-ghost use Rattle.pt_host.specs.Disk.{shown, IsAtRest};
+ghost use Rattle.std.specs.Prelude.{◌≡◌, [], length, IfOk, ℕ, List as Listed};
+ghost use Rattle.pt_host.specs.Disk.{shown, IsAtRest, IsImage};
 ghost use Rattle.pt_host.specs.Listed.{by_name};
+ghost use Rattle.pt_memhost.specs.State.{capped};
+ghost use Rattle.pt_memhost.specs.Pick.{picked};
 ghost use Rattle.pt_memhost.specs.Story.{start_world};
 ghost use Rattle.pt_memhost.specs.Memory.{Memory, fresh, world_in};
 
@@ -96,6 +98,37 @@ impl MemHost {
         ensures { result.now ≡ (world_in self.now).now.said }
     {
         self.kept.said()
+    }
+
+    /// How many name operations are pending now.
+    pub fn pending(&self) -> u64
+        ensures { result ≡ length (world_in self.now).now.fs.pending }
+    {
+        self.kept.pending() as u64
+    }
+
+    /// How many syncs were made up to now. It stays at 2^64 − 1.
+    pub fn syncs(&self) -> u64
+        ensures { result ≡ capped (world_in self.now).now.syncs }
+    {
+        self.kept.syncs()
+    }
+
+    /// How many bytes were given to `write_at` up to now. It stays at 2^64 − 1.
+    pub fn written(&self) -> u64
+        ensures { result ≡ capped (world_in self.now).now.bytes }
+    {
+        self.kept.written()
+    }
+
+    /// An image that a stop may leave now, by a choice: with p pending name operations the first `choice % (p + 1)` of them
+    /// survive. The quotient says what is left of each file: its least length where it is even, and its present one where it
+    /// is odd; and half of it, by 4, what its loose bytes hold: the present ones, or each 0, or 1, or 255.
+    pub fn image_pick(&self, alloc: Global, choice: u64) -> Result<Image, AllocError>
+        ensures picked { IfOk result (λ image. (name : Listed ℕ) → by_name image.files name ≡ picked choice (world_in self.now).now.fs name) }
+        ensures image { IfOk result (λ image. IsImage (world_in self.now).now.fs (by_name image.files)) }
+    {
+        self.kept.pick(alloc, choice)
     }
 
     /// The calls of `Host` with these numbers are to fail, counted over all of them from 0, and no others by order. It takes
