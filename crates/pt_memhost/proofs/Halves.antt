@@ -13,6 +13,7 @@ torn_fails old new name at count front within fits e = go (present old.now.fs na
   where
     changed : Option ℕ → World
     changed object = next old (record { fs = on_file object (torn_by at count front) old.now.fs; said = old.now.said; looks = old.now.looks; syncs = old.now.syncs; bytes = old.now.bytes + count })
+
     go : (object : Option ℕ) → present old.now.fs name ≡ object → IsSomeAnd (option_map (λ i. (old.now.fs.objects i).bytes) object) (λ file. at ≤ length file) → FailedWrite name at count old new
     go None is h = absurd h
     go (Some object) is h =

@@ -33,12 +33,14 @@ by_name_left rest objects (entry ∷ entries) name = go (is_at (slice_cmp nat_cm
   where
     left : List ℕ
     left = left_by rest (get_or objects entry.1 empty_object)
+
     same : bytes_eq entry.0 name ≡ is_at (slice_cmp nat_cmp name) entry.0
     same = nat_list_eq_equiv.symm entry.0 name ∙ sym (is_eq-slice_cmp name entry.0)
+
     go : (b : Bool) → bytes_eq entry.0 name ≡ b
         → by_name (left_entries rest objects entries) name ≡ option_map (λ object. left_by rest (get_or objects object empty_object)) (lookup (is_at (slice_cmp nat_cmp name)) entries)
         → cond (bytes_eq entry.0 name) (Some left) (by_name (left_entries rest objects entries) name)
-          ≡ option_map (λ object. left_by rest (get_or objects object empty_object)) (cond b (Some entry.1) (lookup (is_at (slice_cmp nat_cmp name)) entries))
+        ≡ option_map (λ object. left_by rest (get_or objects object empty_object)) (cond b (Some entry.1) (lookup (is_at (slice_cmp nat_cmp name)) entries))
     go true e h = rw e refl
     go false e h = rw e h
 
