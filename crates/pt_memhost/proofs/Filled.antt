@@ -40,7 +40,7 @@ filled-push fill loose place [] byte = ap (λ n. cond (is_loose loose n) (loose_
 filled-push fill loose place (b ∷ bytes) byte =
     ap (λ bs. cond (is_loose loose place) (loose_byte fill b) b ∷ bs)
     (filled-push fill loose (place + 1) bytes byte
-     ∙ ap (λ n. filled fill loose (place + 1) bytes ++ cond (is_loose loose n) (loose_byte fill byte) byte ∷ []) (let e : place + 1 + length bytes ≡ place + length (b ∷ bytes) = omega arith in e))
+    ∙ ap (λ n. filled fill loose (place + 1) bytes ++ cond (is_loose loose n) (loose_byte fill byte) byte ∷ []) (let e : place + 1 + length bytes ≡ place + length (b ∷ bytes) = omega arith in e))
 
 -- one more item of a list
 pub take_item : {X : Type 0} → (xs : List X) (i : ℕ) (x : X) → i < length xs → x ≡ get_or xs i x → take (i + 1) xs ≡ take i xs ++ x ∷ []

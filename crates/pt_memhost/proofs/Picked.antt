@@ -1,5 +1,5 @@
 -- The image that is picked: its files, and that a stop may leave them.
-use Rattle.std.proofs.Common.{◌≡◌, ◌∙◌, ℕ, zero, suc, ◌+◌, ◌/◌, ◌%◌, ◌<◌, ◌≤◌, min, Bool, true, false, cond, List, [], ◌∷◌, ◌++◌, length, length-take, take, drop, map, get_or, take-append-drop, add-zero, refl, sym, ap, subst, arith}
+use Rattle.std.proofs.Common.{◌≡◌, ◌∙◌, ℕ, zero, suc, ◌+◌, ◌/◌, ◌%◌, ◌≤◌, Bool, true, false, cond, List, [], ◌∷◌, length, length-take, take, drop, map, get_or, take-append-drop, refl, sym, ap, subst, arith}
 use Rattle.std.specs.Prelude.{Option, Some, None, ◌==◌}
 use Rattle.std.specs.Option.{option_map}
 use Rattle.std.specs.Map.{lookup}
@@ -7,7 +7,6 @@ use Rattle.std.specs.Ordering.{nat_cmp}
 use Rattle.std.specs.Str.{bytes_eq}
 use Rattle.std.specs.Cmp.Lexicographic.{slice_cmp, nat_list_eq_equiv}
 use Rattle.std.specs.BTreeMap.{BTreeMap, IsOrdered, is_at}
-use Rattle.std.specs.List.Sorted.{IsStrictlySortedBy}
 use Rattle.std.proofs.lemmas.List.{get_or-take, take-map, length-map}
 use Rattle.std.proofs.lemmas.Map.Text.{is_eq-slice_cmp}
 use Rattle.std.proofs.lemmas.Simd.{map-map}
@@ -33,12 +32,14 @@ by_name_left rest objects (entry ∷ entries) name = go (is_at (slice_cmp nat_cm
   where
     left : List ℕ
     left = left_by rest (get_or objects entry.1 empty_object)
+
     same : bytes_eq entry.0 name ≡ is_at (slice_cmp nat_cmp name) entry.0
     same = nat_list_eq_equiv.symm entry.0 name ∙ sym (is_eq-slice_cmp name entry.0)
+
     go : (b : Bool) → bytes_eq entry.0 name ≡ b
         → by_name (left_entries rest objects entries) name ≡ option_map (λ object. left_by rest (get_or objects object empty_object)) (lookup (is_at (slice_cmp nat_cmp name)) entries)
         → cond (bytes_eq entry.0 name) (Some left) (by_name (left_entries rest objects entries) name)
-          ≡ option_map (λ object. left_by rest (get_or objects object empty_object)) (cond b (Some entry.1) (lookup (is_at (slice_cmp nat_cmp name)) entries))
+        ≡ option_map (λ object. left_by rest (get_or objects object empty_object)) (cond b (Some entry.1) (lookup (is_at (slice_cmp nat_cmp name)) entries))
     go true e h = rw e refl
     go false e h = rw e h
 

@@ -105,7 +105,12 @@ fn overwrite(file: &mut Vec<u8>, at: usize, bytes: &[u8]) -> Result<(), AllocErr
 }
 
 /// These bytes, with the loose ones filled.
-fn filled(alloc: Global, bytes: &[u8], loose: &[(u64, u64)], fill: u64) -> Result<List<u8>, AllocError>
+fn filled(
+    alloc: Global,
+    bytes: &[u8],
+    loose: &[(u64, u64)],
+    fill: u64,
+) -> Result<List<u8>, AllocError>
     ensures { IfOk result (λ left. left ≡ filled fill (ranges_of loose.now) 0 bytes.now) }
 {
     let mut left = List::new(alloc);

@@ -6,12 +6,11 @@ ghost use Rattle.pt_host.specs.Disk.{empty_object, names_after};
 ghost use Rattle.pt_memhost.specs.Names.{named, op_of};
 ghost use Rattle.pt_memhost.specs.Pick.{left_by};
 
-use std::alloc::{AllocError, Global};
-
 use crate::names::{NameChange, Names, change};
 use crate::object::FileObject;
 use pt_host::Files;
 use pt_plain::List;
+use std::alloc::{AllocError, Global};
 
 /// The names after these changes.
 pub(crate) fn names_kept(settled: &Names, kept: &[NameChange]) -> Result<Names, AllocError>
@@ -25,7 +24,12 @@ pub(crate) fn names_kept(settled: &Names, kept: &[NameChange]) -> Result<Names, 
 }
 
 /// What is left of the files with these names, in the order of the names.
-pub(crate) fn files_left(alloc: Global, names: &Names, objects: &[FileObject], rest: u64) -> Result<Files, AllocError>
+pub(crate) fn files_left(
+    alloc: Global,
+    names: &Names,
+    objects: &[FileObject],
+    rest: u64,
+) -> Result<Files, AllocError>
     ensures files { IfOk result (λ files. files ≡ map (λ entry. (entry.0, left_by rest (slice_index_or objects.now entry.1 empty_object))) names.now.entries) }
     ensures ordered { IsOrdered (slice_cmp nat_cmp) names.now }
 {
@@ -38,7 +42,12 @@ pub(crate) fn files_left(alloc: Global, names: &Names, objects: &[FileObject], r
 }
 
 /// What is left of an object, which is empty where there is none with that number.
-fn bytes_left(alloc: Global, objects: &[FileObject], number: usize, rest: u64) -> Result<List<u8>, AllocError>
+fn bytes_left(
+    alloc: Global,
+    objects: &[FileObject],
+    number: usize,
+    rest: u64,
+) -> Result<List<u8>, AllocError>
     ensures { IfOk result (λ bytes. bytes ≡ left_by rest (slice_index_or objects.now number empty_object)) }
 {
     match objects.get(number) {

@@ -148,7 +148,10 @@ impl Host for MemHost {
             }
             Turn::Ordered if fits => {
                 let front = self.copy(Side::Disk, &bytes[..bytes.len() / 2])?;
-                self.run(Side::Disk, Event::Tore(*name, at, bytes.len() as u64, front))?;
+                self.run(
+                    Side::Disk,
+                    Event::Tore(*name, at, bytes.len() as u64, front),
+                )?;
                 Err(self.refuse(Side::Disk))
             }
             _ => Err(self.refuse(Side::Disk)),
