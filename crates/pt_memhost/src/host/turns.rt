@@ -60,8 +60,7 @@ impl MemHost {
     {
         match self.turn() {
             Turn::Passes => Ok(()),
-            Turn::Ordered => Err(self.refuse(side)),
-            Turn::Spent => Err(self.refuse(side)),
+            Turn::Ordered | Turn::Spent => Err(self.refuse(side)),
         }
     }
 
