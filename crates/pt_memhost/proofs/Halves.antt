@@ -1,9 +1,9 @@
 -- A write or a `say` that was ordered to fail is a failed one of the trait.
-use Rattle.std.proofs.Common.{◌≡◌, ◌∙◌, ℕ, ◌+◌, ◌≤◌, List, ◌++◌, length, take, drop, le_refl, refl, sym, arith, inr, take-append-drop}
+use Rattle.std.proofs.Common.{◌≡◌, ◌∙◌, ℕ, ◌+◌, ◌≤◌, List, length, take, drop, le_refl, refl, sym, arith, inr, take-append-drop}
 use Rattle.std.specs.Prelude.{Option, Some, None, IsSomeAnd}
 use Rattle.std.specs.Option.{option_map}
-use Rattle.pt_host.specs.Disk.{Fs, present, shown, overwrite, on_file}
-use Rattle.pt_host.specs.World.{World, next, after_torn, after_say, FailedWrite, FailedSay}
+use Rattle.pt_host.specs.Disk.{present, shown, overwrite, on_file}
+use Rattle.pt_host.specs.World.{World, next, after_say, FailedWrite, FailedSay}
 use Rattle.pt_host.proofs.Writes.{torn_wider, overwrite_torn}
 use Rattle.pt_memhost.specs.Story.{after_torn_by, torn_by}
 

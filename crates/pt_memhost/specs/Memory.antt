@@ -1,5 +1,5 @@
 -- A host in memory, as its callers see it.
-use Rattle.std.specs.Prelude.{ℕ, List, [], Option, None}
+use Rattle.std.specs.Prelude.{ℕ, ◌-◌, ◌^◌, min, List, [], Option, None}
 use Rattle.pt_host.specs.World.{World}
 use Rattle.pt_memhost.specs.Story.{Story, world_of}
 
@@ -33,3 +33,7 @@ fresh files input = record {
 
 abbrev pub world_in : Memory → World
 world_in memory = world_of memory.story
+
+-- a count that stays at its last value
+abbrev pub capped : ℕ → ℕ
+capped n = min n (2 ^ 64 - 1)

@@ -1,12 +1,9 @@
 -- What a host in memory holds of the world at present.
-use Rattle.std.specs.Prelude.{◌≡◌, ℕ, ◌-◌, ◌^◌, min, drop}
+use Rattle.std.specs.Prelude.{◌≡◌, drop}
 use Rattle.pt_host.specs.World.{World}
 use Rattle.pt_memhost.specs.declared.state.State.{State}
 use Rattle.pt_memhost.specs.Held.{fs_of}
-
--- a count that stays at its last value
-abbrev pub capped : ℕ → ℕ
-capped n = min n (2 ^ 64 - 1)
+use Rattle.pt_memhost.specs.Memory.{capped}
 
 pub record Mirrors (w : World) (state : State) : Type 0 where
   pub input_is : w.input ≡ drop state.taken state.input

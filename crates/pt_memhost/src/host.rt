@@ -1,10 +1,9 @@
 ghost use Rattle.std.specs.Prelude.{◌≡◌, [], length, IfOk, ℕ, List as Listed};
 ghost use Rattle.pt_host.specs.Disk.{shown, IsAtRest, IsImage};
 ghost use Rattle.pt_host.specs.Listed.{by_name};
-ghost use Rattle.pt_memhost.specs.State.{capped};
 ghost use Rattle.pt_memhost.specs.Pick.{picked};
 ghost use Rattle.pt_memhost.specs.Story.{start_world};
-ghost use Rattle.pt_memhost.specs.Memory.{Memory, fresh, world_in};
+ghost use Rattle.pt_memhost.specs.Memory.{Memory, fresh, capped, world_in};
 
 mod calls;
 mod turns;

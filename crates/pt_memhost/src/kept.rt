@@ -6,7 +6,7 @@ ghost use Rattle.pt_memhost.specs.declared.event.Event.TheVariants.{Took};
 ghost use Rattle.pt_memhost.specs.Held.{IsNameAt};
 ghost use Rattle.pt_memhost.specs.Story.{Story, world_of, with_event, after_event};
 ghost use Rattle.pt_memhost.specs.Pick.{picked};
-ghost use Rattle.pt_memhost.specs.State.{capped};
+ghost use Rattle.pt_memhost.specs.Memory.{capped};
 
 use crate::Event;
 use crate::read::read_from;

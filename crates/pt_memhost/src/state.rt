@@ -27,7 +27,8 @@ pub(crate) struct State {
 
 impl State {
     ghost use Rattle.pt_memhost.specs.Held.{fs_of, IsNameAt};
-    ghost use Rattle.pt_memhost.specs.State.{Mirrors, capped};
+    ghost use Rattle.pt_memhost.specs.State.{Mirrors};
+    ghost use Rattle.pt_memhost.specs.Memory.{capped};
 
     /// What is held at the start: these files at rest and this input, copied.
     pub(crate) fn at_start(

@@ -36,8 +36,7 @@ impl MemHost {
                 self.run(Side::Disk, event)?;
                 Err(self.refuse(Side::Disk))
             }
-            Turn::Ordered => Err(self.refuse(Side::Disk)),
-            Turn::Spent => Err(self.refuse(Side::Disk)),
+            Turn::Ordered | Turn::Spent => Err(self.refuse(Side::Disk)),
         }
     }
 }

@@ -2,7 +2,8 @@ ghost use Rattle.std.specs.Prelude.{◌≡◌, ◌≢◌, IfOk, OnOk, OnErr};
 ghost use Rattle.pt_memhost.specs.declared.host.turns.Turn.TheVariants.{Passes};
 ghost use Rattle.pt_memhost.specs.Story.{after_event};
 ghost use Rattle.pt_memhost.specs.Memory.{world_in};
-ghost use Rattle.pt_memhost.specs.Turns.{turn_of, after_turn, running, faults_of, refusing, starving, Raised};
+ghost use Rattle.pt_memhost.specs.Turns.{turn_of, Raised};
+ghost use Rattle.pt_memhost.specs.Steps.{after_turn, running, faults_of, refusing, starving};
 
 use super::MemHost;
 use crate::Event;
@@ -59,8 +60,7 @@ impl MemHost {
     {
         match self.turn() {
             Turn::Passes => Ok(()),
-            Turn::Ordered => Err(self.refuse(side)),
-            Turn::Spent => Err(self.refuse(side)),
+            Turn::Ordered | Turn::Spent => Err(self.refuse(side)),
         }
     }
 

@@ -1,7 +1,5 @@
-use Rattle.std.proofs.Common.{◌∙◌, ap, sym, map, List, ℕ, take, [], ◌∷◌, arith}
-use Rattle.pt_host.specs.Disk.{NameOp, Names, after_op, names_after}
-use Rattle.pt_host.proofs.Names.{names_after-push}
-use Rattle.std.proofs.lemmas.List.{map-append}
+use Rattle.std.proofs.Common.{◌∙◌, ap, sym, map, List, take, arith}
+use Rattle.pt_host.specs.Disk.{names_after}
 use Rattle.pt_memhost.specs.declared.names.NameChange.{NameChange}
 use Rattle.pt_memhost.specs.Names.{named, op_of}
 use Rattle.pt_memhost.proofs.Filled.{take_item}

@@ -1,5 +1,4 @@
-use Rattle.std.proofs.Common.{◌≡◌, ◌∙◌, ◌+◌, ◌/◌, ◌%◌, length, take, map, rules}
-use Rattle.std.specs.BTreeMap.{BTreeMap}
+use Rattle.std.proofs.Common.{◌≡◌, ◌+◌, ◌/◌, ◌%◌, length, take, map, rules}
 use Rattle.pt_host.specs.Disk.{names_after}
 use Rattle.pt_memhost.specs.Names.{named, op_of}
 use Rattle.pt_memhost.proofs.Picked.{left_entries, left_rising, picked_is}

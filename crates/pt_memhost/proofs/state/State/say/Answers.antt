@@ -1,6 +1,6 @@
 use Rattle.std.proofs.Common.{◌∙◌, ◌++◌, ap, sym, ℕ, List}
 use Rattle.pt_host.specs.World.{World, after_say}
-use Rattle.pt_memhost.specs.State.{capped}
+use Rattle.pt_memhost.specs.Memory.{capped}
 use Rattle.pt_memhost.specs.Law.{IsSaid, say_said}
 use Rattle.pt_memhost.proofs.state.State.say.Goals as goal
 
