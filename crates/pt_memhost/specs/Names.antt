@@ -1,5 +1,5 @@
 -- The names of a disk in memory.
-use Rattle.std.specs.Prelude.{◌≡◌, ℕ, ◌+◌, List, map, reverse}
+use Rattle.std.specs.Prelude.{◌≡◌, ℕ, ◌+◌, ◌-◌, Bool, ◌&&◌, nat_le, nat_lt, List, map, reverse}
 use Rattle.std.specs.BTreeMap.{BTreeMap, get}
 use Rattle.std.specs.Cmp.Lexicographic.{slice_cmp}
 use Rattle.std.specs.Ordering.{nat_cmp}
@@ -20,6 +20,10 @@ op_of (Gone name) = Unlink name
 -- ranges kept as a place and a count, the newest last, as the disk model lists them
 abbrev pub ranges_of : List (ℕ × ℕ) → List (ℕ × ℕ)
 ranges_of kept = reverse (map (λ range. (range.0, range.0 + range.1)) kept)
+
+-- a place is in a range that is kept so
+abbrev pub is_in : ℕ → ℕ × ℕ → Bool
+is_in place range = nat_le range.0 place && nat_lt (place - range.0) range.1
 
 -- The names are what the pending changes lead to from those that are settled.
 abbrev pub IsSeen : BTreeMap (List ℕ) ℕ → List NameChange → Names → Type 0

@@ -1,13 +1,16 @@
-ghost use Rattle.std.specs.Prelude.{◌≡◌, ◌<◌, IfOk, OnOk, OnErr, IfSome, length, option_copied};
+ghost use Rattle.std.specs.Prelude.{◌≡◌, ◌<◌, IfOk, OnOk, OnErr, IfSome, length, option_copied, ℕ, List as Listed};
 ghost use Rattle.pt_host.specs.Disk.{IsSound, present, shown, created, with_op, on_file, overwrite, torn, synced, names_synced};
+ghost use Rattle.pt_host.specs.Listed.{by_name};
+ghost use Rattle.pt_memhost.specs.Pick.{picked};
 ghost use Rattle.pt_memhost.specs.Story.{start_fs};
 ghost use Rattle.pt_memhost.specs.Names.{named, op_of, IsSeen};
 
 use crate::names::{NameChange, Names, change_pending};
 use crate::object::FileObject;
+use crate::pick::{files_left, names_kept};
 use crate::room::add_last;
 use crate::start::{places, sure_objects};
-use pt_host::Name;
+use pt_host::{Image, Name};
 use pt_plain::List;
 use std::alloc::{AllocError, Global};
 
@@ -127,5 +130,23 @@ impl Disk {
         ensures { IsNameAt (fs_of self.now) i result }
     {
         self.names.keys().nth(i).copied()
+    }
+
+    /// How many name operations are pending.
+    pub(crate) fn pending(&self) -> usize
+        ensures { result ≡ length (fs_of self.now).pending }
+    {
+        self.pending.len()
+    }
+
+    /// The image that a stop leaves by this choice.
+    pub(crate) fn pick(&self, alloc: Global, choice: u64) -> Result<Image, AllocError>
+        ensures { IfOk result (λ image. (name : Listed ℕ) → by_name image.files name ≡ picked choice (fs_of self.now) name) }
+    {
+        let ways = self.pending.len() as u64 + 1;
+        let kept = (choice % ways) as usize;
+        let names = names_kept(&self.settled, &self.pending[..kept])?;
+        let files = files_left(alloc, &names, &self.objects, choice / ways)?;
+        Ok(Image { files })
     }
 }

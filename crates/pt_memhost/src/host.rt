@@ -1,23 +1,19 @@
-ghost use Rattle.std.specs.Prelude.{◌≡◌, [], IfOk, OnOk, OnErr, IsSome, IsSomeAnd, ℕ, List as Listed};
-ghost use Rattle.pt_host.specs.Disk.{shown, IsAtRest};
+ghost use Rattle.std.specs.Prelude.{◌≡◌, [], length, IfOk, ℕ, List as Listed};
+ghost use Rattle.pt_host.specs.Disk.{shown, IsAtRest, IsImage};
 ghost use Rattle.pt_host.specs.Listed.{by_name};
-ghost use Rattle.pt_host.specs.World.{Reads};
-ghost use Rattle.pt_memhost.specs.declared.event.Event.TheVariants.{Entered, Looked, Wrote, Said};
-ghost use Rattle.pt_memhost.specs.Story.{start_world, world_of, after_event};
-ghost use Rattle.pt_memhost.specs.Memory.{Memory, Raised, fresh, world_in, counted, running, disk_starved, disk_refusing, input_starved, output_starved};
+ghost use Rattle.pt_memhost.specs.State.{capped};
+ghost use Rattle.pt_memhost.specs.Pick.{picked};
+ghost use Rattle.pt_memhost.specs.Story.{start_world};
+ghost use Rattle.pt_memhost.specs.Memory.{Memory, fresh, world_in};
 
 mod calls;
+mod turns;
 
-use crate::Event;
 use crate::kept::Kept;
-use crate::read::read_from;
-use pt_host::{HostFail, Image, Name};
+use pt_host::{Image, Name};
 use pt_plain::List;
 use std::alloc::{AllocError, Global};
 use std::marker::Model;
-
-/// No file grows past this length.
-const FILE_LIMIT: u64 = 1 << 62;
 
 /// A host in memory. It tells all of its content.
 #[derive(Debug, Drop)]
@@ -29,6 +25,8 @@ pub struct MemHost {
     disk_faults: u64,
     in_faults: u64,
     out_faults: u64,
+    ordered: List<u64>,
+    fuse: Option<u64>,
 }
 
 impl Model for MemHost {
@@ -36,7 +34,7 @@ impl Model for MemHost {
 
     ghost Value = { Memory };
 
-    ghost view = { λ host. record { story = host.kept; calls = host.calls; starved = host.starved; disk_faults = host.disk_faults; in_faults = host.in_faults; out_faults = host.out_faults } };
+    ghost view = { λ host. record { story = host.kept; calls = host.calls; starved = host.starved; disk_faults = host.disk_faults; in_faults = host.in_faults; out_faults = host.out_faults; ordered = host.ordered; fuse = host.fuse } };
 }
 
 impl MemHost {
@@ -76,6 +74,8 @@ impl MemHost {
             disk_faults: 0,
             in_faults: 0,
             out_faults: 0,
+            ordered: List::new(alloc),
+            fuse: None,
         })
     }
 
@@ -95,108 +95,54 @@ impl MemHost {
 
     /// What was said.
     pub fn said(&self) -> &[u8]
-        ensures { result.now ≡ (world_of self.now.story).now.said }
+        ensures { result.now ≡ (world_in self.now).now.said }
     {
         self.kept.said()
     }
 
-    /// Counts a call.
-    fn count(&mut self)
-        ensures { self.new ≡ counted self.old }
+    /// How many name operations are pending now.
+    pub fn pending(&self) -> u64
+        ensures { result ≡ length (world_in self.now).now.fs.pending }
     {
-        self.calls = self.calls.saturating_add(1);
+        self.kept.pending() as u64
     }
 
-    /// Does what an event says.
-    fn run(&mut self, event: Event) -> Result<(), AllocError>
-        ensures ok { OnOk result (self.new ≡ running self.old event) }
-        ensures world { OnOk result (world_in self.new ≡ after_event event (world_in self.old)) }
-        ensures err { OnErr result (self.new ≡ self.old) }
+    /// How many syncs were made up to now. It stays at 2^64 − 1.
+    pub fn syncs(&self) -> u64
+        ensures { result ≡ capped (world_in self.now).now.syncs }
     {
-        self.kept.run(event)?;
-        Ok(())
+        self.kept.syncs()
     }
 
-    fn try_enter(&mut self, dir: &str) -> Result<(), AllocError>
-        ensures ok { OnOk result (self.new ≡ running self.old (Entered dir.now)) }
-        ensures world { OnOk result (world_in self.new ≡ after_event (Entered dir.now) (world_in self.old)) }
-        ensures err { OnErr result (self.new ≡ self.old) }
+    /// How many bytes were given to `write_at` up to now. It stays at 2^64 − 1.
+    pub fn written(&self) -> u64
+        ensures { result ≡ capped (world_in self.now).now.bytes }
     {
-        let dir = List::from_slice(self.alloc, dir.as_bytes())?;
-        self.run(Event::Entered(dir))
+        self.kept.written()
     }
 
-    fn try_read(&mut self, name: &Name, at: u64, into: &mut [u8]) -> Result<usize, AllocError>
-        requires { IsSome (shown (world_in self.old).now.fs name.now) }
-        ensures ok { OnOk result (self.new ≡ running self.old (Looked name.now)) }
-        ensures world { OnOk result (world_in self.new ≡ after_event (Looked name.now) (world_in self.old)) }
-        ensures bytes { IfOk result (λ count. IsSomeAnd (shown (world_in self.old).now.fs name.now) (λ file. Reads file at count into.old into.new)) }
-        ensures err { OnErr result (self.new ≡ self.old) }
+    /// An image that a stop may leave now, by a choice: with p pending name operations the first `choice % (p + 1)` of them
+    /// survive. The quotient says what is left of each file: its least length where it is even, and its present one where it
+    /// is odd; and half of it, by 4, what its loose bytes hold: the present ones, or each 0, or 1, or 255.
+    pub fn image_pick(&self, alloc: Global, choice: u64) -> Result<Image, AllocError>
+        ensures picked { IfOk result (λ image. (name : Listed ℕ) → by_name image.files name ≡ picked choice (world_in self.now).now.fs name) }
+        ensures image { IfOk result (λ image. IsImage (world_in self.now).now.fs (by_name image.files)) }
     {
-        self.run(Event::Looked(*name))?;
-        let Some(file) = self.kept.file(name) else {
-            return Ok(0);
-        };
-        Ok(read_from(file, at, into))
+        self.kept.pick(alloc, choice)
     }
 
-    fn try_write(&mut self, name: &Name, at: u64, bytes: &[u8]) -> Result<(), AllocError>
-        ensures ok { OnOk result (self.new ≡ running self.old (Wrote name.now at bytes.now)) }
-        ensures world { OnOk result (world_in self.new ≡ after_event (Wrote name.now at bytes.now) (world_in self.old)) }
-        ensures err { OnErr result (self.new ≡ self.old) }
+    /// The calls of `Host` with these numbers are to fail, counted over all of them from 0, and no others by order. It takes
+    /// no memory.
+    pub fn fail_calls(&mut self, list: List<u64>)
+        ensures { self.new ≡ record self.old { ordered = list } }
     {
-        let bytes = List::from_slice(self.alloc, bytes)?;
-        self.run(Event::Wrote(*name, at, bytes))
+        self.ordered = list;
     }
 
-    fn try_say(&mut self, bytes: &[u8]) -> Result<(), AllocError>
-        ensures ok { OnOk result (self.new ≡ running self.old (Said bytes.now)) }
-        ensures world { OnOk result (world_in self.new ≡ after_event (Said bytes.now) (world_in self.old)) }
-        ensures err { OnErr result (self.new ≡ self.old) }
+    /// So many more calls of `Host` pass, and each later one fails. It takes no memory.
+    pub fn fuse(&mut self, k: u64)
+        ensures { self.new ≡ record self.old { fuse = Some k } }
     {
-        let bytes = List::from_slice(self.alloc, bytes)?;
-        self.run(Event::Said(bytes))
-    }
-
-    /// Counts a call on the directory that failed for want of memory.
-    fn disk_failed(&mut self) -> HostFail
-        ensures value { self.new ≡ disk_starved self.old }
-        ensures starved { Raised self.old.starved self.new.starved }
-        ensures faults { Raised self.old.disk_faults self.new.disk_faults }
-    {
-        self.starved = self.starved.saturating_add(1);
-        self.disk_faults = self.disk_faults.saturating_add(1);
-        HostFail::Failed
-    }
-
-    /// Counts a call on the directory that failed, but for no want of memory.
-    fn disk_refused(&mut self) -> HostFail
-        ensures value { self.new ≡ disk_refusing self.old }
-        ensures faults { Raised self.old.disk_faults self.new.disk_faults }
-    {
-        self.disk_faults = self.disk_faults.saturating_add(1);
-        HostFail::Failed
-    }
-
-    /// Counts a call on the input that failed for want of memory.
-    fn input_failed(&mut self) -> HostFail
-        ensures value { self.new ≡ input_starved self.old }
-        ensures starved { Raised self.old.starved self.new.starved }
-        ensures faults { Raised self.old.in_faults self.new.in_faults }
-    {
-        self.starved = self.starved.saturating_add(1);
-        self.in_faults = self.in_faults.saturating_add(1);
-        HostFail::Failed
-    }
-
-    /// Counts a call on the output that failed for want of memory.
-    fn output_failed(&mut self) -> HostFail
-        ensures value { self.new ≡ output_starved self.old }
-        ensures starved { Raised self.old.starved self.new.starved }
-        ensures faults { Raised self.old.out_faults self.new.out_faults }
-    {
-        self.starved = self.starved.saturating_add(1);
-        self.out_faults = self.out_faults.saturating_add(1);
-        HostFail::Failed
+        self.fuse = Some(k);
     }
 }

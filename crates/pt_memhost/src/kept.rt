@@ -1,16 +1,19 @@
-ghost use Rattle.std.specs.Prelude.{◌≡◌, ◌<◌, [], length, IfOk, OnOk, OnErr, option_copied};
-ghost use Rattle.pt_host.specs.Disk.{shown};
+ghost use Rattle.std.specs.Prelude.{◌≡◌, ◌<◌, [], length, IfOk, OnOk, OnErr, option_copied, ℕ, List as Listed};
+ghost use Rattle.pt_host.specs.Disk.{shown, IsImage};
+ghost use Rattle.pt_host.specs.Listed.{by_name};
 ghost use Rattle.pt_host.specs.World.{Takes, after_take};
 ghost use Rattle.pt_memhost.specs.declared.event.Event.TheVariants.{Took};
 ghost use Rattle.pt_memhost.specs.Held.{IsNameAt};
 ghost use Rattle.pt_memhost.specs.Story.{Story, world_of, with_event, after_event};
+ghost use Rattle.pt_memhost.specs.Pick.{picked};
+ghost use Rattle.pt_memhost.specs.State.{capped};
 
 use crate::Event;
 use crate::read::read_from;
 use crate::room::add_last;
 use crate::start::copy_files;
 use crate::state::State;
-use pt_host::{Files, Name};
+use pt_host::{Files, Image, Name};
 use pt_plain::List;
 use std::alloc::{AllocError, Global};
 use std::marker::Model;
@@ -108,5 +111,35 @@ impl Kept {
         ensures { result.now ≡ (world_of self.now).now.said }
     {
         self.state.said()
+    }
+
+    /// How many name operations are pending.
+    pub(crate) fn pending(&self) -> usize
+        ensures { result ≡ length (world_of self.now).now.fs.pending }
+    {
+        self.state.pending()
+    }
+
+    /// How many syncs were made, at most 2^64 − 1.
+    pub(crate) fn syncs(&self) -> u64
+        ensures { result ≡ capped (world_of self.now).now.syncs }
+    {
+        self.state.syncs()
+    }
+
+    /// How many bytes were given to writes, at most 2^64 − 1.
+    pub(crate) fn written(&self) -> u64
+        ensures { result ≡ capped (world_of self.now).now.bytes }
+    {
+        self.state.written()
+    }
+
+    /// The image that a stop leaves by this choice.
+    pub(crate) fn pick(&self, alloc: Global, choice: u64) -> Result<Image, AllocError>
+        ensures picked { IfOk result (λ image. (name : Listed ℕ) → by_name image.files name ≡ picked choice (world_of self.now).now.fs name) }
+        ensures image { IfOk result (λ image. IsImage (world_of self.now).now.fs (by_name image.files)) }
+    {
+        let image = self.state.pick(alloc, choice)?;
+        Ok(image)
     }
 }

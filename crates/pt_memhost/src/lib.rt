@@ -14,6 +14,7 @@ mod host;
 mod kept;
 mod names;
 mod object;
+mod pick;
 mod read;
 mod room;
 mod start;

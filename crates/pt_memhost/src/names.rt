@@ -54,7 +54,7 @@ fn move_name(names: &mut Names, from: &Name, to: Name) -> Result<(), AllocError>
 }
 
 /// Makes a change, or none where a name that is to be moved isn't there. Want of memory leaves all as it was.
-fn change(names: &mut Names, change: &NameChange) -> Result<(), AllocError>
+pub(crate) fn change(names: &mut Names, change: &NameChange) -> Result<(), AllocError>
     ensures ok { OnOk result (named names.new ≡ after_op (op_of change.now) (named names.old)) }
     ensures err { OnErr result (named names.new ≡ named names.old) }
 {

@@ -1,5 +1,7 @@
-ghost use Rattle.std.specs.Prelude.{◌≡◌, ◌≤◌, ℕ, length, drop, IfOk, OnOk, OnErr, option_copied};
+ghost use Rattle.std.specs.Prelude.{◌≡◌, ◌≤◌, ℕ, length, drop, IfOk, OnOk, OnErr, option_copied, List as Listed};
 ghost use Rattle.pt_host.specs.Disk.{IsSound, shown, created, with_op};
+ghost use Rattle.pt_host.specs.Listed.{by_name};
+ghost use Rattle.pt_memhost.specs.Pick.{picked};
 ghost use Rattle.pt_host.specs.World.{World, after_sync, after_fs, after_sync_names, after_take, after_say};
 ghost use Rattle.pt_memhost.specs.Names.{op_of};
 ghost use Rattle.pt_memhost.specs.Story.{start_world, after_event, after_torn_by};
@@ -7,7 +9,7 @@ ghost use Rattle.pt_memhost.specs.Story.{start_world, after_event, after_torn_by
 use crate::Event;
 use crate::disk::Disk;
 use crate::names::NameChange;
-use pt_host::Name;
+use pt_host::{Image, Name};
 use pt_plain::List;
 use std::alloc::{AllocError, Global};
 
@@ -25,7 +27,7 @@ pub(crate) struct State {
 
 impl State {
     ghost use Rattle.pt_memhost.specs.Held.{fs_of, IsNameAt};
-    ghost use Rattle.pt_memhost.specs.State.{Mirrors};
+    ghost use Rattle.pt_memhost.specs.State.{Mirrors, capped};
 
     /// What is held at the start: these files at rest and this input, copied.
     pub(crate) fn at_start(
@@ -165,5 +167,33 @@ impl State {
         ensures { (w : World) → Mirrors w self.now → result.now ≡ w.now.said }
     {
         &self.said
+    }
+
+    /// How many name operations are pending.
+    pub(crate) fn pending(&self) -> usize
+        ensures { (w : World) → Mirrors w self.now → result ≡ length w.now.fs.pending }
+    {
+        self.disk.pending()
+    }
+
+    /// How many syncs were made, at most 2^64 − 1.
+    pub(crate) fn syncs(&self) -> u64
+        ensures { (w : World) → Mirrors w self.now → result ≡ capped w.now.syncs }
+    {
+        self.syncs
+    }
+
+    /// How many bytes were given to writes, at most 2^64 − 1.
+    pub(crate) fn written(&self) -> u64
+        ensures { (w : World) → Mirrors w self.now → result ≡ capped w.now.bytes }
+    {
+        self.written
+    }
+
+    /// The image that a stop leaves by this choice.
+    pub(crate) fn pick(&self, alloc: Global, choice: u64) -> Result<Image, AllocError>
+        ensures { (w : World) → Mirrors w self.now → IfOk result (λ image. (name : Listed ℕ) → by_name image.files name ≡ picked choice w.now.fs name) }
+    {
+        self.disk.pick(alloc, choice)
     }
 }

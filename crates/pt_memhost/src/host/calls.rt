@@ -1,16 +1,51 @@
-ghost use Rattle.std.specs.Prelude.{◌≡◌, ◌⊎◌, ◌≢◌, ◌≤◌, ◌<◌, ◌+◌, ◌^◌, ℕ, length, IfOk, OnOk, OnErr, IsSome, IsSomeAnd, Some, None};
+ghost use Rattle.std.specs.Prelude.{◌≡◌, ◌⊎◌, ◌≢◌, ◌≤◌, ◌<◌, ◌+◌, ◌/◌, ◌^◌, length, take, IfOk, OnOk, OnErr, IsSome, IsSomeAnd, Some, None};
 ghost use Rattle.std.specs.Option.{option_map};
-ghost use Rattle.pt_host.specs.Disk.{shown, with_op, created, Rename, Unlink, IsSound};
-ghost use Rattle.pt_host.specs.World.{World, after_enter, after_look, after_write, after_sync, after_fs, after_sync_names, after_take, after_say, FailedWrite, FailedSay, Lists, Reads, Takes, HasCause};
-ghost use Rattle.pt_memhost.specs.State.{capped};
+ghost use Rattle.pt_host.specs.Disk.{shown, with_op, created, Rename, Unlink};
+ghost use Rattle.pt_host.specs.World.{after_enter, after_look, after_write, after_sync, after_fs, after_sync_names, after_take, after_say, FailedWrite, FailedSay, Lists, Reads, Takes, HasCause};
+ghost use Rattle.pt_memhost.specs.Story.{after_event, after_torn_by};
 ghost use Rattle.pt_memhost.specs.Memory.{world_in};
+ghost use Rattle.pt_memhost.specs.Turns.{Obeys, Refuses, if_odd};
 
-use super::{FILE_LIMIT, MemHost};
+use super::MemHost;
+use super::turns::{Side, Turn};
 use crate::Event;
 use crate::read::read_from;
 use pt_host::{Host, HostFail, Name};
-use pt_plain::List;
 
+/// No file grows past this length.
+const FILE_LIMIT: u64 = 1 << 62;
+
+impl MemHost {
+    /// A call that changes names, as an event says. One that was ordered to fail does so after the change where its number
+    /// is odd.
+    fn change_names(&mut self, event: Event) -> Result<(), HostFail>
+        ensures ok { OnOk result (world_in self.new ≡ after_event event (world_in self.old)) }
+        ensures failed { OnErr result ((world_in self.new ≡ world_in self.old) ⊎ (world_in self.new ≡ after_event event (world_in self.old))) }
+        ensures obeys { Obeys (if_odd self.old.calls (after_event event)) self.old self.new result }
+        ensures disk { HasCause self.old.disk_faults self.new.disk_faults result }
+        ensures input { self.new.in_faults ≡ self.old.in_faults }
+        ensures output { self.new.out_faults ≡ self.old.out_faults }
+    {
+        let odd = self.calls % 2 == 1;
+        match self.turn() {
+            Turn::Passes => {
+                self.run(Side::Disk, event)?;
+                Ok(())
+            }
+            Turn::Ordered if odd => {
+                self.run(Side::Disk, event)?;
+                Err(self.refuse(Side::Disk))
+            }
+            Turn::Ordered => Err(self.refuse(Side::Disk)),
+            Turn::Spent => Err(self.refuse(Side::Disk)),
+        }
+    }
+}
+
+/// A call that was ordered to fail does what its clause `obeys` says, and then fails: a write puts the first half of its
+/// bytes, and so does `say`; a change of names is made where the call's number is odd; the others do nothing. Halves are
+/// rounded down. A call past the fuse does nothing, nor does a write whose end would pass 2^62, nor one in which memory was
+/// wanting.
 impl Host for MemHost {
     ghost use Rattle.pt_memhost.specs.Memory.{world_in};
     ghost use Rattle.pt_memhost.specs.Law.{law};
@@ -34,14 +69,12 @@ impl Host for MemHost {
         ensures disk { HasCause self.old.disk_faults self.new.disk_faults result }
         ensures input { self.new.in_faults ≡ self.old.in_faults }
         ensures output { self.new.out_faults ≡ self.old.out_faults }
-        ensures counts { self.new.calls ≡ capped (self.old.calls + 1) }
-        ensures starves { HasCause self.old.starved self.new.starved result }
+        ensures obeys { Obeys (λ w. w) self.old self.new result }
     {
-        self.count();
-        match self.try_enter(dir) {
-            Ok(()) => Ok(()),
-            Err(_) => Err(self.disk_failed()),
-        }
+        self.pass(Side::Disk)?;
+        let dir = self.copy(Side::Disk, dir.as_bytes())?;
+        self.run(Side::Disk, Event::Entered(dir))?;
+        Ok(())
     }
 
     fn list(&mut self, i: u64, name: &mut Name) -> Result<bool, HostFail>
@@ -51,10 +84,9 @@ impl Host for MemHost {
         ensures disk { HasCause self.old.disk_faults self.new.disk_faults result }
         ensures input { self.new.in_faults ≡ self.old.in_faults }
         ensures output { self.new.out_faults ≡ self.old.out_faults }
-        ensures counts { self.new.calls ≡ capped (self.old.calls + 1) }
-        ensures starves { HasCause self.old.starved self.new.starved result }
+        ensures obeys { Obeys (λ w. w) self.old self.new result }
     {
-        self.count();
+        self.pass(Side::Disk)?;
         match self.kept.name_at(i as usize) {
             None => Ok(false),
             Some(found) => {
@@ -71,10 +103,9 @@ impl Host for MemHost {
         ensures disk { HasCause self.old.disk_faults self.new.disk_faults result }
         ensures input { self.new.in_faults ≡ self.old.in_faults }
         ensures output { self.new.out_faults ≡ self.old.out_faults }
-        ensures counts { self.new.calls ≡ capped (self.old.calls + 1) }
-        ensures starves { HasCause self.old.starved self.new.starved result }
+        ensures obeys { Obeys (λ w. w) self.old self.new result }
     {
-        self.count();
+        self.pass(Side::Disk)?;
         Ok(self.kept.file(name).map(|file| file.len() as u64))
     }
 
@@ -87,14 +118,14 @@ impl Host for MemHost {
         ensures disk { HasCause self.old.disk_faults self.new.disk_faults result }
         ensures input { self.new.in_faults ≡ self.old.in_faults }
         ensures output { self.new.out_faults ≡ self.old.out_faults }
-        ensures counts { self.new.calls ≡ capped (self.old.calls + 1) }
-        ensures starves { HasCause self.old.starved self.new.starved result }
+        ensures obeys { Obeys (λ w. w) self.old self.new result }
     {
-        self.count();
-        match self.try_read(name, at, into) {
-            Ok(count) => Ok(count),
-            Err(_) => Err(self.disk_failed()),
-        }
+        self.pass(Side::Disk)?;
+        self.run(Side::Disk, Event::Looked(*name))?;
+        let Some(file) = self.kept.file(name) else {
+            return Ok(0);
+        };
+        Ok(read_from(file, at, into))
     }
 
     fn write_at(&mut self, name: &Name, at: u64, bytes: &[u8]) -> Result<(), HostFail>
@@ -105,17 +136,25 @@ impl Host for MemHost {
         ensures disk { HasCause self.old.disk_faults self.new.disk_faults result }
         ensures input { self.new.in_faults ≡ self.old.in_faults }
         ensures output { self.new.out_faults ≡ self.old.out_faults }
-        ensures counts { self.new.calls ≡ capped (self.old.calls + 1) }
-        ensures starves { at + length bytes.now ≤ 2 ^ 62 → HasCause self.old.starved self.new.starved result }
-        ensures past { 2 ^ 62 < at + length bytes.now → self.new.starved ≡ self.old.starved }
+        ensures obeys { at + length bytes.now ≤ 2 ^ 62 → Obeys (after_torn_by name.now at (length bytes.now) (take (length bytes.now / 2) bytes.now)) self.old self.new result }
+        ensures past { 2 ^ 62 < at + length bytes.now → Refuses self.old self.new result }
     {
-        self.count();
-        if at > FILE_LIMIT || bytes.len() as u64 > FILE_LIMIT - at {
-            return Err(self.disk_refused());
-        }
-        match self.try_write(name, at, bytes) {
-            Ok(()) => Ok(()),
-            Err(_) => Err(self.disk_failed()),
+        let fits = at <= FILE_LIMIT && bytes.len() as u64 <= FILE_LIMIT - at;
+        match self.turn() {
+            Turn::Passes if fits => {
+                let copy = self.copy(Side::Disk, bytes)?;
+                self.run(Side::Disk, Event::Wrote(*name, at, copy))?;
+                Ok(())
+            }
+            Turn::Ordered if fits => {
+                let front = self.copy(Side::Disk, &bytes[..bytes.len() / 2])?;
+                self.run(
+                    Side::Disk,
+                    Event::Tore(*name, at, bytes.len() as u64, front),
+                )?;
+                Err(self.refuse(Side::Disk))
+            }
+            _ => Err(self.refuse(Side::Disk)),
         }
     }
 
@@ -126,14 +165,11 @@ impl Host for MemHost {
         ensures disk { HasCause self.old.disk_faults self.new.disk_faults result }
         ensures input { self.new.in_faults ≡ self.old.in_faults }
         ensures output { self.new.out_faults ≡ self.old.out_faults }
-        ensures counts { self.new.calls ≡ capped (self.old.calls + 1) }
-        ensures starves { HasCause self.old.starved self.new.starved result }
+        ensures obeys { Obeys (λ w. w) self.old self.new result }
     {
-        self.count();
-        match self.run(Event::Synced(*name)) {
-            Ok(()) => Ok(()),
-            Err(_) => Err(self.disk_failed()),
-        }
+        self.pass(Side::Disk)?;
+        self.run(Side::Disk, Event::Synced(*name))?;
+        Ok(())
     }
 
     fn create(&mut self, name: &Name) -> Result<(), HostFail>
@@ -143,14 +179,9 @@ impl Host for MemHost {
         ensures disk { HasCause self.old.disk_faults self.new.disk_faults result }
         ensures input { self.new.in_faults ≡ self.old.in_faults }
         ensures output { self.new.out_faults ≡ self.old.out_faults }
-        ensures counts { self.new.calls ≡ capped (self.old.calls + 1) }
-        ensures starves { HasCause self.old.starved self.new.starved result }
+        ensures obeys { Obeys (if_odd self.old.calls (λ w. after_fs (created name.now w.now.fs) w)) self.old self.new result }
     {
-        self.count();
-        match self.run(Event::Created(*name)) {
-            Ok(()) => Ok(()),
-            Err(_) => Err(self.disk_failed()),
-        }
+        self.change_names(Event::Created(*name))
     }
 
     fn rename(&mut self, from: &Name, to: &Name) -> Result<(), HostFail>
@@ -161,14 +192,9 @@ impl Host for MemHost {
         ensures disk { HasCause self.old.disk_faults self.new.disk_faults result }
         ensures input { self.new.in_faults ≡ self.old.in_faults }
         ensures output { self.new.out_faults ≡ self.old.out_faults }
-        ensures counts { self.new.calls ≡ capped (self.old.calls + 1) }
-        ensures starves { HasCause self.old.starved self.new.starved result }
+        ensures obeys { Obeys (if_odd self.old.calls (λ w. after_fs (with_op (Rename from.now to.now) w.now.fs) w)) self.old self.new result }
     {
-        self.count();
-        match self.run(Event::Renamed(*from, *to)) {
-            Ok(()) => Ok(()),
-            Err(_) => Err(self.disk_failed()),
-        }
+        self.change_names(Event::Renamed(*from, *to))
     }
 
     fn unlink(&mut self, name: &Name) -> Result<(), HostFail>
@@ -178,14 +204,9 @@ impl Host for MemHost {
         ensures disk { HasCause self.old.disk_faults self.new.disk_faults result }
         ensures input { self.new.in_faults ≡ self.old.in_faults }
         ensures output { self.new.out_faults ≡ self.old.out_faults }
-        ensures counts { self.new.calls ≡ capped (self.old.calls + 1) }
-        ensures starves { HasCause self.old.starved self.new.starved result }
+        ensures obeys { Obeys (if_odd self.old.calls (λ w. after_fs (with_op (Unlink name.now) w.now.fs) w)) self.old self.new result }
     {
-        self.count();
-        match self.run(Event::Unlinked(*name)) {
-            Ok(()) => Ok(()),
-            Err(_) => Err(self.disk_failed()),
-        }
+        self.change_names(Event::Unlinked(*name))
     }
 
     fn sync_names(&mut self) -> Result<(), HostFail>
@@ -195,14 +216,11 @@ impl Host for MemHost {
         ensures disk { HasCause self.old.disk_faults self.new.disk_faults result }
         ensures input { self.new.in_faults ≡ self.old.in_faults }
         ensures output { self.new.out_faults ≡ self.old.out_faults }
-        ensures counts { self.new.calls ≡ capped (self.old.calls + 1) }
-        ensures starves { HasCause self.old.starved self.new.starved result }
+        ensures obeys { Obeys (λ w. w) self.old self.new result }
     {
-        self.count();
-        match self.run(Event::SyncedNames) {
-            Ok(()) => Ok(()),
-            Err(_) => Err(self.disk_failed()),
-        }
+        self.pass(Side::Disk)?;
+        self.run(Side::Disk, Event::SyncedNames)?;
+        Ok(())
     }
 
     fn take(&mut self, into: &mut [u8]) -> Result<usize, HostFail>
@@ -214,13 +232,12 @@ impl Host for MemHost {
         ensures disk { self.new.disk_faults ≡ self.old.disk_faults }
         ensures input { HasCause self.old.in_faults self.new.in_faults result }
         ensures output { self.new.out_faults ≡ self.old.out_faults }
-        ensures counts { self.new.calls ≡ capped (self.old.calls + 1) }
-        ensures starves { HasCause self.old.starved self.new.starved result }
+        ensures obeys { Obeys (λ w. w) self.old self.new result }
     {
-        self.count();
+        self.pass(Side::Input)?;
         match self.kept.take(into) {
             Ok(count) => Ok(count),
-            Err(_) => Err(self.input_failed()),
+            Err(_) => Err(self.starve(Side::Input)),
         }
     }
 
@@ -230,13 +247,20 @@ impl Host for MemHost {
         ensures disk { self.new.disk_faults ≡ self.old.disk_faults }
         ensures input { self.new.in_faults ≡ self.old.in_faults }
         ensures output { HasCause self.old.out_faults self.new.out_faults result }
-        ensures counts { self.new.calls ≡ capped (self.old.calls + 1) }
-        ensures starves { HasCause self.old.starved self.new.starved result }
+        ensures obeys { Obeys (after_say (take (length bytes.now / 2) bytes.now)) self.old self.new result }
     {
-        self.count();
-        match self.try_say(bytes) {
-            Ok(()) => Ok(()),
-            Err(_) => Err(self.output_failed()),
+        match self.turn() {
+            Turn::Passes => {
+                let copy = self.copy(Side::Output, bytes)?;
+                self.run(Side::Output, Event::Said(copy))?;
+                Ok(())
+            }
+            Turn::Ordered => {
+                let front = self.copy(Side::Output, &bytes[..bytes.len() / 2])?;
+                self.run(Side::Output, Event::Said(front))?;
+                Err(self.refuse(Side::Output))
+            }
+            Turn::Spent => Err(self.refuse(Side::Output)),
         }
     }
 }
