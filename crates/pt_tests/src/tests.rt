@@ -7,6 +7,7 @@ mod directory;
 mod endings;
 mod faults;
 mod limits;
+mod orders;
 mod reading;
 mod script;
 
