@@ -1,0 +1,27 @@
+use Rattle.std.proofs.Common.{◌≡◌, List, subst, Less, Equal, Greater}
+use Rattle.pt_store.specs.declared.entry.Entry.{Entry}
+use Rattle.pt_store.proofs.Placed.{AreBefore, at_end, in_front, already, stands_at, before_more, before_all}
+use Rattle.pt_store.proofs.serials.add_serials.Goals as goal
+
+pub loop-i-preserved : goal.loop-i-preserved
+loop-i-preserved c =
+    before_more _ _ c.loop-i.invariant
+    (stands_at _ c.loop-i.i c.entry-item.result _ _ Less c.loop-i-test.true c.entry-item.is c.serials-name.ensures c.cmp.ensures c.in-Less.is)
+
+pub returns-in-Equal : goal.returns-in-Equal
+returns-in-Equal c = λ bytes files are.
+    let here = stands_at _ c.loop-i.i c.entry-item.result _ _ Equal c.loop-i-test.true c.entry-item.is c.serials-name.ensures c.cmp.ensures c.in-Equal.is in
+    already bytes c.args.entries.now files c.loop-i.i (rw c.items-entry-items.ensures at c.loop-i-test.true) (rw c.items-entry-items.ensures at c.loop-i.invariant) (rw c.items-entry-items.ensures at here) are
+
+pub returns-in-Greater : goal.returns-in-Greater
+returns-in-Greater c = λ bytes files are.
+    let here = stands_at _ c.loop-i.i c.entry-item.result _ _ Greater c.loop-i-test.true c.entry-item.is c.serials-name.ensures c.cmp.ensures c.in-Greater.is in
+    let added = c.in_ok-insert-in-Greater.ensures.ok in
+    rw (added, c.empty.ensures, c.serials-name.ensures)
+    (in_front bytes c.args.entries.now files c.loop-i.i (rw c.items-entry-items.ensures at c.loop-i-test.true) (rw c.items-entry-items.ensures at c.loop-i.invariant) (rw c.items-entry-items.ensures at here) are)
+
+pub returns : goal.returns
+returns c = λ bytes files are.
+    let before = before_all _ _ c.loop-i-test.false c.loop-i.invariant in
+    rw (c.in_ok-push.ensures.ok, c.empty-2.ensures, c.serials-name.ensures)
+    (at_end bytes c.args.entries.now files (rw c.items-entry-items.ensures at before) are)
