@@ -1,9 +1,9 @@
 -- Files that stand whatever a stop leaves, and what leaves them alone.
-use Rattle.std.proofs.Common.{◌≡◌, ◌≢◌, ℕ, ◌<◌, List, [], refl, sym, ap, ◌∙◌, subst, arith, inl, inr}
+use Rattle.std.proofs.Common.{◌≡◌, ◌≢◌, ◌⊎◌, ℕ, ◌<◌, List, [], refl, sym, ap, ◌∙◌, subst, arith, inl, inr}
 use Rattle.std.specs.Prelude.{Option, Some, None}
 use Rattle.pt_host.specs.Disk.{Names, NameOp, Create, Rename, Unlink, Object, empty_object, MayHold, MayBe, Torn, Fs, put, moved, after_op, names_after, present, shown, written, torn, overwrite, synced, Survives, EachImage, IsSound, on_file, with_op, created, names_synced}
 use Rattle.pt_host.specs.Images.{IsSteady, IsOwner, IsHeld, IsThere, Keeps, Rewrites}
-use Rattle.pt_host.specs.World.{World, FailedWrite, after_write, after_sync}
+use Rattle.pt_host.specs.World.{World, FailedWrite, after_write, after_sync, after_fs, after_sync_names}
 use Rattle.pt_host.proofs.Names.{cases_name, put_same, put_other, survives_all, survives_none, kept_push, names_after-push}
 use Rattle.pt_host.proofs.Sound.{shown_object}
 use Rattle.pt_host.proofs.Writes.{torn_same}
@@ -232,3 +232,17 @@ there_after_failed_write old new name file at count failed there =
             subst (λ (w : World). IsThere w.now.fs name torn_so.1) (sym torn_so.4) (there_torn old.now.fs name file at count torn_so.1 there),
           )
     ]
+
+pub there_after_create : (a b c : World) (name : List ℕ) → b ≡ after_fs (created name a.now.fs) a → c ≡ after_sync_names b → IsThere c.now.fs name []
+there_after_create a b c name made kept = subst (λ (w : World). IsThere w.now.fs name []) (sym (kept ∙ ap after_sync_names made)) (there_created a.now.fs name)
+
+-- a name operation, done or not, and a sync of names, of what they leave alone
+pub keeps_after_op : (old new : World) (fs : Fs) (name : List ℕ) → (new ≡ old) ⊎ (new ≡ after_fs fs old) → Keeps old.now.fs fs name → Keeps old.now.fs new.now.fs name
+keeps_after_op old new fs name which keeps =
+    elim which [
+      | inl same ↦ subst (λ (w : World). Keeps old.now.fs w.now.fs name) (sym same) (keeps_same old.now.fs name)
+      | inr done ↦ subst (λ (w : World). Keeps old.now.fs w.now.fs name) (sym done) keeps
+    ]
+
+pub keeps_after_sync_names : (old new : World) (name : List ℕ) → new ≡ after_sync_names old → Keeps old.now.fs new.now.fs name
+keeps_after_sync_names old new name same = subst (λ (w : World). Keeps old.now.fs w.now.fs name) (sym same) (keeps_names_synced old.now.fs name)

@@ -7,5 +7,6 @@ pub mod Writes
 pub mod Held
 pub mod Tears
 pub mod Rising
+pub mod Operations
 pub mod Shown
 pub mod Replacement

@@ -1,18 +1,19 @@
 -- The steps by which a file is replaced by its shadow.
-use Rattle.std.proofs.Common.{◌≡◌, ◌≢◌, ◌⊎◌, ℕ, ◌+◌, ◌<◌, ◌≤◌, List, [], length, refl, sym, ap, ◌∙◌, subst, arith, inl, inr}
-use Rattle.std.specs.Prelude.{Option, Some, None}
+use Rattle.std.proofs.Common.{◌≡◌, ◌≢◌, ◌⊎◌, ℕ, ◌<◌, ◌≤◌, List, [], length, refl, sym, ap, ◌∙◌, subst, arith, inl, inr}
+use Rattle.std.specs.Prelude.{Option, Some, None, IsSome, IsSomeAnd}
 use Rattle.std.specs.Option.{option_map}
 use Rattle.pt_host.specs.Disk.{Names, Files, NameOp, Create, Rename, Unlink, Object, empty_object, MayHold, Fs, put, moved, names_after, present, shown, written, overwrite, synced, Survives, IsImage, EachImage, IsSound, on_file, with_op, created, names_synced}
-use Rattle.pt_host.specs.World.{World, IsQuiet, FailedWrite, with_fs, after_fs, after_write, after_sync, after_sync_names}
+use Rattle.pt_host.specs.World.{World, IsQuiet, FailedWrite, after_fs, after_write, after_sync, after_sync_names}
 use Rattle.pt_host.specs.Images.{IsOwner, IsHeld, AreSame, OnlyAt, Does, Tears, Follows}
 use Rattle.pt_host.specs.Replacement.{AsBeforeBut, Replaces, IsBeforeOrAfter, IsClear, IsDraft, IsReady}
 use Rattle.pt_host.proofs.Names.{put_same, put_other, put_some, kept_push, survives_none, names_after-push}
 use Rattle.pt_host.proofs.Sound.{shown_object}
-use Rattle.pt_host.proofs.Images.{this_object, may_hold_synced, full_is_image, names_synced_images, unlink_images, rename_images, create_images, owner_file}
-use Rattle.pt_host.proofs.Runs.{quiet_same, quiet_call, quiet_either, quiet_weaken, quiet_then, follows_here, follows_weaken, follows_then}
+use Rattle.pt_host.proofs.Images.{read, this_object, may_hold_synced, owner_file}
+use Rattle.pt_host.proofs.Runs.{quiet_same, quiet_weaken, follows_here, follows_weaken, follows_then}
 use Rattle.pt_host.proofs.Writes.{overwrite_end}
 use Rattle.pt_host.proofs.Tears.{write_step, failed_write_step, sync_step}
-use Rattle.pt_host.proofs.Shown.{moved_sure, moved_gone}
+use Rattle.pt_host.proofs.Operations.{unlink_step, create_step, rename_step, sync_names_step}
+use Rattle.pt_host.proofs.Shown.{shown_some, shown_within, moved_sure, moved_gone}
 
 -- # Steps that leave all names but one alone
 
@@ -28,10 +29,6 @@ then_but a b c name = follows_then a b c (OnlyAt name) (OnlyAt name) (OnlyAt nam
 pub idle_but : (old new : World) (name : List ℕ) → new ≡ old → IsQuiet old new (AsBeforeBut old.now.fs name)
 idle_but old new name same = quiet_same old new (AsBeforeBut old.now.fs name) same (same_but old.now.fs name)
 
--- a name operation that was done or not
-pub op_quiet : (old new : World) (fs : Fs) (P : Files → Type 0) → (new ≡ old) ⊎ (new ≡ after_fs fs old) → EachImage old.now.fs P → EachImage fs P → IsQuiet old new P
-op_quiet old new fs P which = quiet_either old new (with_fs old.now fs) P which refl
-
 -- the steps of an unlink and of a create
 only_from_put : (name : List ℕ) (to : Option (List ℕ)) (x y : Files) → AreSame x y ⊎ AreSame (put x name to) y → OnlyAt name x y
 only_from_put name to x y step query differs =
@@ -39,20 +36,13 @@ only_from_put name to x y step query differs =
 
 pub unlink_but : (old new : World) (name : List ℕ) → IsSound old.now.fs → (new ≡ old) ⊎ (new ≡ after_fs (with_op (Unlink name) old.now.fs) old) → IsQuiet old new (AsBeforeBut old.now.fs name)
 unlink_but old new name sound which =
-    op_quiet old new (with_op (Unlink name) old.now.fs) (AsBeforeBut old.now.fs name) which (same_but old.now.fs name)
-    (λ files image. follows_weaken old.now.fs (Does (Unlink name)) (OnlyAt name) (only_from_put name None) files (unlink_images old.now.fs name sound files image))
+    quiet_weaken old new (Follows old.now.fs (Does (Unlink name))) (AsBeforeBut old.now.fs name)
+    (follows_weaken old.now.fs (Does (Unlink name)) (OnlyAt name) (only_from_put name None)) (unlink_step old new name sound which)
 
 pub create_but : (old new : World) (name : List ℕ) → IsSound old.now.fs → (new ≡ old) ⊎ (new ≡ after_fs (created name old.now.fs) old) → IsQuiet old new (AsBeforeBut old.now.fs name)
 create_but old new name sound which =
-    op_quiet old new (created name old.now.fs) (AsBeforeBut old.now.fs name) which (same_but old.now.fs name)
-    (λ files image. follows_weaken old.now.fs (Does (Create name old.now.fs.made)) (OnlyAt name) (only_from_put name (Some [])) files (create_images old.now.fs name sound files image))
-
--- A sync of names adds no image.
-pub sync_names_step : (old new : World) → new ≡ after_sync_names old → IsQuiet old new (IsImage old.now.fs)
-sync_names_step old new same =
-    quiet_call old new
-    (record { fs = names_synced old.now.fs; said = old.now.said; looks = old.now.looks; syncs = old.now.syncs + 1; bytes = old.now.bytes })
-    (IsImage old.now.fs) same refl (λ files image. full_is_image old.now.fs files (names_synced_images old.now.fs files image))
+    quiet_weaken old new (Follows old.now.fs (Does (Create name old.now.fs.made))) (AsBeforeBut old.now.fs name)
+    (follows_weaken old.now.fs (Does (Create name old.now.fs.made)) (OnlyAt name) (only_from_put name (Some []))) (create_step old new name sound which)
 
 pub sync_names_but : (old new : World) (name : List ℕ) → new ≡ after_sync_names old → IsQuiet old new (AsBeforeBut old.now.fs name)
 sync_names_but old new name same = quiet_weaken old new (IsImage old.now.fs) (AsBeforeBut old.now.fs name) (same_but old.now.fs name) (sync_names_step old new same)
@@ -149,8 +139,22 @@ filled a b c d name bytes sound clear made put_in kept =
     ready_after_sync c d name bytes
     (subst (λ file. IsDraft c.now.fs name file) (overwrite_end bytes []) (draft_after_write b c name [] 0 bytes (draft_after_create a b name sound clear made) put_in)) kept
 
+-- # What calls ask
+
+pub clear_none : (fs : Fs) (name : List ℕ) → IsClear fs name → shown fs name ≡ None
+clear_none fs name clear = rw clear.settled (ap (read fs.objects) clear.none)
+
 pub draft_shown : (fs : Fs) (name file : List ℕ) → IsDraft fs name file → shown fs name ≡ Some file
 draft_shown fs name file draft = shown_object fs name draft.object draft.owner.now ∙ ap Some draft.bytes
+
+pub draft_some : (fs : Fs) (name file : List ℕ) → IsDraft fs name file → IsSome (shown fs name)
+draft_some fs name file draft = shown_some fs name file (draft_shown fs name file draft)
+
+pub draft_within : (fs : Fs) (name file : List ℕ) (at : ℕ) → IsDraft fs name file → at ≤ length file → IsSomeAnd (shown fs name) (λ bytes. at ≤ length bytes)
+draft_within fs name file at draft = shown_within fs name file at (draft_shown fs name file draft)
+
+pub ready_some : (fs : Fs) (name bytes : List ℕ) → IsReady fs name bytes → IsSome (shown fs name)
+ready_some fs name bytes ready = shown_some fs name (fs.objects ready.object).bytes (shown_object fs name ready.object ready.owner.now)
 
 -- # The rename
 
@@ -173,35 +177,33 @@ idle_either fs name shadow bytes = follows_here fs (Replaces name shadow bytes) 
 pub either_idle : (old new : World) (name shadow bytes : List ℕ) → new ≡ old → IsQuiet old new (IsBeforeOrAfter old.now.fs name shadow bytes)
 either_idle old new name shadow bytes same = quiet_same old new (IsBeforeOrAfter old.now.fs name shadow bytes) same (idle_either old.now.fs name shadow bytes)
 
-pub rename_images_either : (fs : Fs) (from name bytes : List ℕ) → IsSound fs → from ≢ name → IsReady fs from bytes → EachImage (with_op (Rename from name) fs) (IsBeforeOrAfter fs name from bytes)
-rename_images_either fs from name bytes sound differ ready files image = go (rename_images fs from name sound differ files image)
-  where
-    go : Follows fs (Does (Rename from name)) files → IsBeforeOrAfter fs name from bytes files
-    go f = record {
-      before = f.before;
-      image = f.image;
-      step = elim f.step [
-        | inl same ↦ record { others = λ query _ _. same query; here = inl (same name) }
-        | inr done ↦ elim (owner_file fs from ready.object ready.owner f.before f.image) [
-          | inl none ↦
-              let same : AreSame f.before files = subst (λ file. AreSame (moved f.before from name file) files) none done in
-              record { others = λ query _ _. same query; here = inl (same name) }
-          | inr some ↦
-              let put_over : AreSame (put (put f.before from None) name (Some bytes)) files =
-              subst (λ file. AreSame (moved f.before from name file) files) (some.1 ∙ ap Some (ready.sure some.0 some.2)) done in
-              record {
-                others = λ query not_name not_from. put_over query ∙ put_other (put f.before from None) name query (Some bytes) not_name ∙ put_other f.before from query None not_from;
-                here = inr (put_over name ∙ put_same (put f.before from None) name (Some bytes));
-              }
-        ]
-      ];
-    }
+-- Where the shadow is ready, a rename replaces the file.
+pub replaces_renamed : (fs : Fs) (from name bytes : List ℕ) → from ≢ name → IsReady fs from bytes → (files : Files) → Follows fs (Does (Rename from name)) files → IsBeforeOrAfter fs name from bytes files
+replaces_renamed fs from name bytes differ ready files f = record {
+  before = f.before;
+  image = f.image;
+  step = elim f.step [
+    | inl same ↦ record { others = λ query _ _. same query; here = inl (same name) }
+    | inr done ↦ elim (owner_file fs from ready.object ready.owner f.before f.image) [
+      | inl none ↦
+          let same : AreSame f.before files = subst (λ file. AreSame (moved f.before from name file) files) none done in
+          record { others = λ query _ _. same query; here = inl (same name) }
+      | inr some ↦
+          let put_over : AreSame (put (put f.before from None) name (Some bytes)) files =
+          subst (λ file. AreSame (moved f.before from name file) files) (some.1 ∙ ap Some (ready.sure some.0 some.2)) done in
+          record {
+            others = λ query not_name not_from. put_over query ∙ put_other (put f.before from None) name query (Some bytes) not_name ∙ put_other f.before from query None not_from;
+            here = inr (put_over name ∙ put_same (put f.before from None) name (Some bytes));
+          }
+    ]
+  ];
+}
 
 pub rename_either : (old new : World) (from name bytes : List ℕ) → IsSound old.now.fs → from ≢ name → IsReady old.now.fs from bytes
     → (new ≡ old) ⊎ (new ≡ after_fs (with_op (Rename from name) old.now.fs) old) → IsQuiet old new (IsBeforeOrAfter old.now.fs name from bytes)
 rename_either old new from name bytes sound differ ready which =
-    op_quiet old new (with_op (Rename from name) old.now.fs) (IsBeforeOrAfter old.now.fs name from bytes) which
-    (idle_either old.now.fs name from bytes) (rename_images_either old.now.fs from name bytes sound differ ready)
+    quiet_weaken old new (Follows old.now.fs (Does (Rename from name))) (IsBeforeOrAfter old.now.fs name from bytes)
+    (replaces_renamed old.now.fs from name bytes differ ready) (rename_step old new from name sound differ which)
 
 -- once names are synced, the file stands with the new bytes, and the shadow is gone
 pub swapped : (fs : Fs) (from name bytes : List ℕ) → IsReady fs from bytes → IsHeld (names_synced (with_op (Rename from name) fs)) name bytes
@@ -209,6 +211,14 @@ swapped fs from name bytes ready = moved_sure fs from name bytes ready.object re
 
 pub shadow_gone : (fs : Fs) (from name bytes : List ℕ) → from ≢ name → IsReady fs from bytes → EachImage (names_synced (with_op (Rename from name) fs)) (λ files. files from ≡ None)
 shadow_gone fs from name bytes differ ready = moved_gone fs from name ready.object differ ready.owner.now
+
+pub swapped_after : (a b c : World) (from name bytes : List ℕ) → IsReady a.now.fs from bytes → b ≡ after_fs (with_op (Rename from name) a.now.fs) a → c ≡ after_sync_names b → IsHeld c.now.fs name bytes
+swapped_after a b c from name bytes ready renamed kept =
+    subst (λ (w : World). IsHeld w.now.fs name bytes) (sym (kept ∙ ap after_sync_names renamed)) (swapped a.now.fs from name bytes ready)
+
+pub shadow_gone_after : (a b c : World) (from name bytes : List ℕ) → from ≢ name → IsReady a.now.fs from bytes → b ≡ after_fs (with_op (Rename from name) a.now.fs) a → c ≡ after_sync_names b → EachImage c.now.fs (λ files. files from ≡ None)
+shadow_gone_after a b c from name bytes differ ready renamed kept =
+    subst (λ (w : World). EachImage w.now.fs (λ files. files from ≡ None)) (sym (kept ∙ ap after_sync_names renamed)) (shadow_gone a.now.fs from name bytes differ ready)
 
 -- # One step after another
 
@@ -221,13 +231,3 @@ pub either_then : (a b c : World) (name shadow bytes : List ℕ) → name ≢ sh
     → IsQuiet a c (IsBeforeOrAfter a.now.fs name shadow bytes)
 either_then a b c name shadow bytes differ =
     follows_then a b c (OnlyAt shadow) (Replaces name shadow bytes) (Replaces name shadow bytes) (replaces_but name shadow bytes differ) (replaces_after_but name shadow bytes differ)
-
--- what adds no image keeps what each image has
-pub image_then : (a b c : World) (P : Files → Type 0) → IsQuiet a b P → IsQuiet b c (IsImage b.now.fs) → IsQuiet a c P
-image_then a b c P run more = quiet_then a b c P run (quiet_weaken b c (IsImage b.now.fs) P run.now more)
-
-pub sync_names_then : (a b c : World) (P : Files → Type 0) → IsQuiet a b P → c ≡ after_sync_names b → IsQuiet a c P
-sync_names_then a b c P run same = image_then a b c P run (sync_names_step b c same)
-
-pub idle_then : (a b c : World) (P : Files → Type 0) → IsQuiet a b P → c ≡ b → IsQuiet a c P
-idle_then a b c P run same = subst (λ (w : World). IsQuiet a w P) (sym same) run

@@ -2,7 +2,7 @@
 use Rattle.std.proofs.Common.{◌≡◌, ◌⊎◌, ℕ, List, [], ◌∷◌, ◌++◌, refl, sym, ap, ◌∙◌, subst, inl, inr, append_assoc, append-nil, OnOk, OnErr}
 use Rattle.std.specs.Prelude.{Result, Ok, Err}
 use Rattle.std.proofs.lemmas.List.Elements.{All-nil, All-append, All-weaker, All-cons}
-use Rattle.pt_host.specs.Disk.{Fs, Files, EachImage}
+use Rattle.pt_host.specs.Disk.{Fs, Files, IsImage, EachImage}
 use Rattle.pt_host.specs.World.{World, Moment, next, after_look, after_say, Since, IsQuiet}
 use Rattle.pt_host.specs.Images.{Follows}
 
@@ -60,6 +60,14 @@ quiet_then a b c P q r = record {
   since = since_then a b c (λ m. (m.said ≡ a.now.said) × EachImage m.fs P) q.since
       (since_weaken b c (λ m. (m.said ≡ b.now.said) × EachImage m.fs P) (λ m. (m.said ≡ a.now.said) × EachImage m.fs P) (λ m h. (h.0 ∙ q.said, h.1)) r.since);
 }
+
+-- what adds no image keeps what each image has
+pub image_then : (a b c : World) (P : Files → Type 0) → IsQuiet a b P → IsQuiet b c (IsImage b.now.fs) → IsQuiet a c P
+image_then a b c P run more = quiet_then a b c P run (quiet_weaken b c (IsImage b.now.fs) P run.now more)
+
+-- and so does a call that did nothing
+pub idle_then : (a b c : World) (P : Files → Type 0) → IsQuiet a b P → c ≡ b → IsQuiet a c P
+idle_then a b c P run same = subst (λ (w : World). IsQuiet a w P) (sym same) run
 
 -- a read adds no image
 pub look_quiet : (old new : World) (name : List ℕ) (P : Files → Type 0) → new ≡ after_look name old → EachImage old.now.fs P → IsQuiet old new P

@@ -1,13 +1,13 @@
 -- What is read: after each call, as an image, and with nothing pending.
 use Rattle.std.proofs.Common.{◌≡◌, ◌≢◌, ℕ, ◌<◌, ◌≤◌, true, false, List, [], length, is_some, refl, sym, ap, ◌∙◌, subst, arith}
-use Rattle.std.specs.Prelude.{Option, Some, None}
+use Rattle.std.specs.Prelude.{Option, Some, None, IsSome, IsSomeAnd}
 use Rattle.std.proofs.lemmas.Grind.{same_number_lists}
 use Rattle.pt_host.specs.Disk.{Names, Files, NameOp, Create, Rename, Unlink, Object, empty_object, MayHold, MayBe, Fs, put, moved, after_op, present, shown, EachImage, IsAtRest, IsSound, with_object, on_file, with_op, created, names_synced}
-use Rattle.pt_host.specs.Images.{IsHeld, AreSame, OnlyAt, files_after, Rewrites}
+use Rattle.pt_host.specs.Images.{IsHeld, IsThere, AreSame, OnlyAt, files_after, Rewrites}
 use Rattle.pt_host.proofs.Names.{put_same, put_other, put_each, put_cong, put_map, survives_all, names_after-push}
 use Rattle.pt_host.proofs.Sound.{shown_object}
 use Rattle.pt_host.proofs.Images.{changed, other_object, this_object, read, may_be_some, may_be_none, shown_is_image, shown_is_full, full_is_image, settled_images}
-use Rattle.pt_host.proofs.Held.{settled_steady, steady_now}
+use Rattle.pt_host.proofs.Held.{settled_steady, steady_now, there_shown, held_shown}
 
 -- # After each call
 
@@ -55,6 +55,29 @@ shown_rewritten old new name sound r query differs = rw (r.pending, r.names) (go
     go : (had : Option ℕ) → present old query ≡ had → read new.objects had ≡ read old.objects had
     go None e = refl
     go (Some object) e = ap (λ (o : Object). Some o.bytes) (r.others object (λ f. differs (sound.once old.pending (survives_all old.pending) query name object e f)))
+
+-- # What calls ask of what is read, and say of it
+
+pub shown_some : (fs : Fs) (name file : List ℕ) → shown fs name ≡ Some file → IsSome (shown fs name)
+shown_some fs name file e = rw e refl
+
+pub shown_within : (fs : Fs) (name file : List ℕ) (at : ℕ) → shown fs name ≡ Some file → at ≤ length file → IsSomeAnd (shown fs name) (λ bytes. at ≤ length bytes)
+shown_within fs name file at e within = rw e within
+
+pub shown_gives : (fs : Fs) (name file : List ℕ) (P : List ℕ → Type 0) → shown fs name ≡ Some file → IsSomeAnd (shown fs name) P → P file
+shown_gives fs name file P e h = rw e at h
+
+pub there_some : (fs : Fs) (name file : List ℕ) → IsThere fs name file → IsSome (shown fs name)
+there_some fs name file there = shown_some fs name file (there_shown fs name file there)
+
+pub there_within : (fs : Fs) (name file : List ℕ) (at : ℕ) → IsThere fs name file → at ≤ length file → IsSomeAnd (shown fs name) (λ bytes. at ≤ length bytes)
+there_within fs name file at there = shown_within fs name file at (there_shown fs name file there)
+
+pub held_some : (fs : Fs) (name file : List ℕ) → IsSound fs → IsHeld fs name file → IsSome (shown fs name)
+held_some fs name file sound held = shown_some fs name file (held_shown fs name file sound held)
+
+pub held_within : (fs : Fs) (name file : List ℕ) (at : ℕ) → IsSound fs → IsHeld fs name file → at ≤ length file → IsSomeAnd (shown fs name) (λ bytes. at ≤ length bytes)
+held_within fs name file at sound held = shown_within fs name file at (held_shown fs name file sound held)
 
 -- # What each image has
 
