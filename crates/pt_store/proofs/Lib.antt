@@ -3,3 +3,4 @@ pub mod Reading
 pub mod Writing
 pub mod Once
 pub mod Placed
+pub mod Steps

@@ -1,5 +1,5 @@
 -- What a store keeps of each file of its map: the name, the length, and the place of its bytes in `whole.map`.
-use Rattle.std.specs.Prelude.{◌≡◌, ℕ, ◌+◌, ◌≤◌, List, ◌++◌, length, take, drop, Option, Some, None}
+use Rattle.std.specs.Prelude.{◌≡◌, ℕ, ◌+◌, ◌≤◌, List, [], ◌++◌, length, take, drop, Option, Some, None}
 use Rattle.std.specs.List.{AllZip}
 use Rattle.pt_store.specs.declared.entry.Entry.{Entry}
 use Rattle.pt_store.specs.Spelling.{Spells, SpellsFiles}
@@ -24,3 +24,8 @@ Begins {X} spelled Is bytes None = (x : X) (rest : List ℕ) → Is x → bytes 
 abbrev pub Parses : (List ℕ → List (List ℕ × List ℕ) → Type 0) → List ℕ → Option (List Entry) → Type 0
 Parses Spell bytes (Some entries) = (files : List (List ℕ × List ℕ)) × Spell bytes files × AreEntries bytes entries files
 Parses Spell bytes None = (files : List (List ℕ × List ℕ)) → Spell bytes files → ⊥
+
+-- the bytes of a file, none where it is missing
+abbrev pub bytes_of : Option (List ℕ) → List ℕ
+bytes_of None = []
+bytes_of (Some bytes) = bytes

@@ -1,0 +1,107 @@
+//! The file that the map stands in: read, and replaced whole by its shadow.
+ghost use Rattle.std.specs.Prelude.{◌≡◌, ◌+◌, ◌≤◌, [], List, length, take, drop, IfOk, OnOk, IsSome, IsSomeAnd};
+ghost use Rattle.std.specs.Option.{option_map};
+ghost use Rattle.pt_host.specs.Disk.{IsImage, shown};
+ghost use Rattle.pt_host.specs.World.{HasCause, IsQuiet};
+ghost use Rattle.pt_host.specs.Images.{IsHeld};
+ghost use Rattle.pt_host.specs.Replacement.{AsBeforeBut, IsBeforeOrAfter, IsClear, IsReady};
+ghost use Rattle.pt_store.specs.Left.{whole_name, shadow_name};
+ghost use Rattle.pt_store.specs.Stops.{Counts, IfBad};
+
+use crate::Stop;
+use crate::names;
+use pt_host::{Host, HostFail};
+use std::alloc::Global;
+
+/// Removes a shadow that was left, if there is one.
+pub(crate) fn clear_shadow<H: Host>(host: &mut H) -> Result<(), HostFail>
+    requires entered { H.tells → IsSome (H.world host.old).dir }
+    requires settled { H.tells → (H.world host.old).now.fs.pending ≡ [] }
+    ensures clear { OnOk result (H.tells → IsClear (H.world host.new).now.fs shadow_name) }
+    ensures quiet { H.tells → IsQuiet (H.world host.old) (H.world host.new) (AsBeforeBut (H.world host.old).now.fs shadow_name) }
+    ensures disk { HasCause (H.disk_faults host.old) (H.disk_faults host.new) result }
+    ensures input { H.in_faults host.new ≡ H.in_faults host.old }
+    ensures output { H.out_faults host.new ≡ H.out_faults host.old }
+{
+    let shadow = names::shadow();
+    if host.length(&shadow)?.is_some() {
+        host.unlink(&shadow)?;
+        host.sync_names()?;
+    }
+    Ok(())
+}
+
+/// Makes a shadow of these bytes.
+fn fill_shadow<H: Host>(host: &mut H, bytes: &[u8]) -> Result<(), HostFail>
+    requires { H.tells → IsClear (H.world host.old).now.fs shadow_name }
+    ensures ready { OnOk result (H.tells → IsReady (H.world host.new).now.fs shadow_name bytes.now) }
+    ensures quiet { H.tells → IsQuiet (H.world host.old) (H.world host.new) (AsBeforeBut (H.world host.old).now.fs shadow_name) }
+    ensures disk { HasCause (H.disk_faults host.old) (H.disk_faults host.new) result }
+    ensures input { H.in_faults host.new ≡ H.in_faults host.old }
+    ensures output { H.out_faults host.new ≡ H.out_faults host.old }
+{
+    let shadow = names::shadow();
+    host.create(&shadow)?;
+    host.write_at(&shadow, 0, bytes)?;
+    host.sync(&shadow)?;
+    Ok(())
+}
+
+/// Replaces `whole.map` by these bytes. Whatever a stop leaves, it is the old file or the new one.
+pub(crate) fn replace_whole<H: Host>(host: &mut H, bytes: &[u8]) -> Result<(), HostFail>
+    requires entered { H.tells → IsSome (H.world host.old).dir }
+    requires settled { H.tells → (H.world host.old).now.fs.pending ≡ [] }
+    ensures held { OnOk result (H.tells → IsHeld (H.world host.new).now.fs whole_name bytes.now) }
+    ensures settled { OnOk result (H.tells → (H.world host.new).now.fs.pending ≡ []) }
+    ensures quiet { H.tells → IsQuiet (H.world host.old) (H.world host.new) (IsBeforeOrAfter (H.world host.old).now.fs whole_name shadow_name bytes.now) }
+    ensures disk { HasCause (H.disk_faults host.old) (H.disk_faults host.new) result }
+    ensures input { H.in_faults host.new ≡ H.in_faults host.old }
+    ensures output { H.out_faults host.new ≡ H.out_faults host.old }
+{
+    clear_shadow(host)?;
+    fill_shadow(host, bytes)?;
+    host.rename(&names::shadow(), &names::whole())?;
+    host.sync_names()?;
+    Ok(())
+}
+
+/// The bytes of `whole.map`, or `None` exactly where there is no such file.
+pub(crate) fn read_whole<H: Host>(alloc: Global, host: &mut H) -> Result<Option<Vec<u8>>, Stop>
+    requires { H.tells → IsSome (H.world host.old).dir }
+    ensures bytes { IfOk result (λ found. H.tells → shown (H.world host.old).now.fs whole_name ≡ option_map (λ v. v.items) found) }
+    ensures same { H.tells → (H.world host.new).now.fs ≡ (H.world host.old).now.fs }
+    ensures quiet { H.tells → IsQuiet (H.world host.old) (H.world host.new) (IsImage (H.world host.old).now.fs) }
+    ensures bad { IfBad result (λ name place. H.tells → ⊥) }
+    ensures disk { Counts (H.disk_faults host.old) (H.disk_faults host.new) result }
+    ensures input { H.in_faults host.new ≡ H.in_faults host.old }
+    ensures output { H.out_faults host.new ≡ H.out_faults host.old }
+{
+    let Some(length) = host.length(&names::whole())? else {
+        return Ok(None);
+    };
+    let bytes = read_range(alloc, host, 0, length)?;
+    Ok(Some(bytes))
+}
+
+/// So many bytes of `whole.map`, from this place on.
+pub(crate) fn read_range<H: Host>(alloc: Global, host: &mut H, place: u64, count: u64) -> Result<Vec<u8>, Stop>
+    requires { H.tells → IsSomeAnd (shown (H.world host.old).now.fs whole_name) (λ file. place + count ≤ length file) }
+    ensures bytes { IfOk result (λ v. H.tells → IsSomeAnd (shown (H.world host.old).now.fs whole_name) (λ file. v.items ≡ take count (drop place file))) }
+    ensures same { H.tells → (H.world host.new).now.fs ≡ (H.world host.old).now.fs }
+    ensures quiet { H.tells → IsQuiet (H.world host.old) (H.world host.new) (IsImage (H.world host.old).now.fs) }
+    ensures bad { IfBad result (λ name place. H.tells → ⊥) }
+    ensures disk { Counts (H.disk_faults host.old) (H.disk_faults host.new) result }
+    ensures input { H.in_faults host.new ≡ H.in_faults host.old }
+    ensures output { H.out_faults host.new ≡ H.out_faults host.old }
+{
+    let whole = names::whole();
+    let mut bytes = Vec::from_elem(alloc, 0u8, count as usize)?;
+    let read = host.read_at(&whole, place, &mut bytes)?;
+    if read < bytes.len() {
+        return Err(Stop::Bad {
+            name: whole,
+            place: 0,
+        });
+    }
+    Ok(bytes)
+}
