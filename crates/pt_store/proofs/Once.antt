@@ -11,7 +11,7 @@ use Rattle.pt_host.specs.Listed.{AreRising}
 use Rattle.pt_store.specs.declared.entry.Entry.{Entry}
 use Rattle.pt_store.specs.Spelling.{number, spelled_file, spelling, IsFile, IsMap, SpellsFiles, Spells}
 use Rattle.pt_store.specs.Entries.{IsEntry, AreEntries, Parses}
-use Rattle.pt_store.specs.Left.{whole_name, with_serials, StandsFor, Left}
+use Rattle.pt_store.specs.Left.{whole_name, with_serials, SpelledIn, StandsFor, Left}
 use Rattle.pt_store.proofs.Fields.{one_number, one_file}
 
 same_files : (a b : List (List ℕ × List ℕ)) → length a ≡ length b → All IsFile a → All IsFile b → flat_map spelled_file a ≡ flat_map spelled_file b → a ≡ b
@@ -35,9 +35,12 @@ files_spelled bytes files s = record { each = s.map.each; few = s.few; spelled =
 pub map_once : (bytes : List ℕ) (a b : List (List ℕ × List ℕ)) → Spells bytes a → Spells bytes b → a ≡ b
 map_once bytes a b s t = spells_once bytes a b (files_spelled bytes a s) (files_spelled bytes b t)
 
-pub stands_once : (file : Option (List ℕ)) (a b : List (List ℕ × List ℕ)) → StandsFor file a → StandsFor file b → a ≡ b
-stands_once None a b s t = s ∙ sym t
-stands_once (Some bytes) a b s t = s.2 ∙ ap with_serials (map_once bytes s.0 t.0 s.1 t.1) ∙ sym t.2
+pub spelled_once : (whole : Option (List ℕ)) (a b : List (List ℕ × List ℕ)) → SpelledIn whole a → SpelledIn whole b → a ≡ b
+spelled_once None a b s t = s ∙ sym t
+spelled_once (Some bytes) a b s t = map_once bytes a b s t
+
+pub stands_once : (whole : Option (List ℕ)) (a b : List (List ℕ × List ℕ)) → StandsFor whole a → StandsFor whole b → a ≡ b
+stands_once whole a b s t = s.complete ∙ ap with_serials (spelled_once whole s.spelled t.spelled s.is t.is) ∙ sym t.complete
 
 pub left_once : (files : Files) (a b : List (List ℕ × List ℕ)) → Left files a → Left files b → a ≡ b
 left_once files = stands_once (files whole_name)

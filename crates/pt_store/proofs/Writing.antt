@@ -1,10 +1,10 @@
 -- Files spelled one after the other, as a loop does.
-use Rattle.std.proofs.Common.{◌≡◌, ℕ, ◌+◌, ◌-◌, ◌<◌, ◌≤◌, List, [], ◌∷◌, ◌++◌, length, take, drop, All, refl, sym, ap, ◌∙◌, append_assoc, append-nil, arith, length-append, subst}
+use Rattle.std.proofs.Common.{◌≡◌, ℕ, ◌+◌, ◌-◌, ◌^◌, ◌<◌, ◌≤◌, List, [], ◌∷◌, ◌++◌, length, take, drop, All, refl, sym, ap, ◌∙◌, append_assoc, append-nil, arith, length-append, subst}
 use Rattle.std.specs.List.{flat_map}
 use Rattle.std.proofs.lemmas.List.{flat_map_more, take_all}
 use Rattle.std.proofs.lemmas.List.Elements.{All-push, All-nil}
 use Rattle.pt_store.specs.declared.entry.Entry.{Entry}
-use Rattle.pt_store.specs.Spelling.{number, spelled_name, spelled_bytes, spelled_file, spelling, IsFile}
+use Rattle.pt_store.specs.Spelling.{number, spelled_name, spelled_bytes, spelled_file, spelling, IsFile, SpellsFiles}
 use Rattle.pt_store.specs.Entries.{IsEntry, AreEntries}
 use Rattle.pt_store.proofs.Fields.{file_ends}
 use Rattle.pt_store.proofs.Reading.{no_entries, push_entry, entries_more, part_here, length-file}
@@ -50,6 +50,6 @@ module _ (out longer : List ℕ) (file : List ℕ × List ℕ) (e : longer ≡ o
 pub writing_through : (files : List (List ℕ × List ℕ)) (i : ℕ) (out : List ℕ) (entries : List Entry) → length files ≤ i → Writing (length files) out entries (take i files) → Writing (length files) out entries files
 writing_through files i out entries above w = subst (λ done. Writing (length files) out entries done) (take_all i files above) w
 
-pub writing_ends : (out : List ℕ) (entries : List Entry) (files : List (List ℕ × List ℕ)) → Writing (length files) out entries files → out ≡ spelling files
+pub writing_ends : (out : List ℕ) (entries : List Entry) (files : List (List ℕ × List ℕ)) → length files < 2 ^ 64 → Writing (length files) out entries files → SpellsFiles out files
 unfolding spelling
-writing_ends out entries files w = w.bytes
+writing_ends out entries files few w = record { each = w.each; few = few; spelled = w.bytes }

@@ -1,5 +1,5 @@
 -- What a directory stands for: the map that `whole.map` spells, with a `serials.cnt` in it.
-use Rattle.std.specs.Prelude.{◌≡◌, ℕ, List, [], ◌∷◌, Option, Some, None}
+use Rattle.std.specs.Prelude.{◌≡◌, ◌⊎◌, ℕ, List, [], ◌∷◌, Option, Some, None}
 use Rattle.std.specs.declared.cmp.Ordering.{Ordering}
 use Rattle.std.specs.declared.cmp.Ordering.TheVariants.{Less, Equal, Greater}
 use Rattle.std.specs.Cmp.Lexicographic.{slice_cmp}
@@ -30,10 +30,16 @@ unfoldable pub with_serials : List (List ℕ × List ℕ) → List (List ℕ × 
 with_serials [] = (serials_name, []) ∷ []
 with_serials (file ∷ files) = placed (slice_cmp nat_cmp file.0 serials_name) file files (with_serials files)
 
+-- The map that `whole.map` spells, where it is missing or has these bytes. A missing one spells the empty map.
+abbrev pub SpelledIn : Option (List ℕ) → List (List ℕ × List ℕ) → Type 0
+SpelledIn None map = map ≡ []
+SpelledIn (Some bytes) map = Spells bytes map
+
 -- `whole.map`, missing or with these bytes, stands for this map.
-abbrev pub StandsFor : Option (List ℕ) → List (List ℕ × List ℕ) → Type 0
-StandsFor None map = map ≡ with_serials []
-StandsFor (Some bytes) map = (files : List (List ℕ × List ℕ)) × Spells bytes files × (map ≡ with_serials files)
+pub record StandsFor (whole : Option (List ℕ)) (map : List (List ℕ × List ℕ)) : Type 0 where
+  pub spelled : List (List ℕ × List ℕ)
+  pub is : SpelledIn whole spelled
+  pub complete : map ≡ with_serials spelled
 
 -- A directory stands for this map. All its other files mean nothing.
 abbrev pub Left : Files → List (List ℕ × List ℕ) → Type 0
@@ -42,3 +48,7 @@ Left files map = StandsFor (files whole_name) map
 -- the same, with the map first
 abbrev pub IsLeft : List (List ℕ × List ℕ) → Files → Type 0
 IsLeft map files = Left files map
+
+-- the directory stands for one of these two
+abbrev pub IsEither : List (List ℕ × List ℕ) → List (List ℕ × List ℕ) → Files → Type 0
+IsEither old new files = Left files old ⊎ Left files new

@@ -5,7 +5,7 @@ use Rattle.pt_host.specs.Disk.{EachImage, shown}
 use Rattle.pt_host.specs.World.{World}
 use Rattle.pt_store.specs.declared.store.Store.{Store}
 use Rattle.pt_store.specs.Left.{whole_name, IsLeft}
-use Rattle.pt_store.specs.Entries.{AreEntries, bytes_of}
+use Rattle.pt_store.specs.Entries.{AreEntries, bytes_of, size_of}
 
 -- it has not failed
 abbrev pub is_live : Store → Bool
@@ -13,16 +13,11 @@ is_live store = store.live
 
 -- the names that it holds, in their order, with the lengths of their files
 abbrev pub sizes : Store → List (List ℕ × ℕ)
-sizes store = map (λ entry. (entry.name, entry.length)) store.entries
+sizes store = map size_of store.entries
 
 -- the same of a map
 abbrev pub sizes_of : List (List ℕ × List ℕ) → List (List ℕ × ℕ)
 sizes_of files = map (λ file. (file.0, length file.1)) files
-
--- the length at a name
-abbrev pub length_in : List (List ℕ × ℕ) → List ℕ → Option ℕ
-length_in [] query = None
-length_in (size ∷ rest) query = cond (bytes_eq size.0 query) (Some size.1) (length_in rest query)
 
 -- The store stands for this map over this host: whatever a stop leaves now, the directory stands for it.
 -- (A caller passes it on whole. `entered`, `settled` and `here` are what the store's own calls need.)

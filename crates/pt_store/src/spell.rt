@@ -1,7 +1,7 @@
 //! Writing the spelling of a map.
 ghost use Rattle.std.specs.Prelude.{◌≡◌, ◌++◌, All, IfOk, OnOk};
 ghost use Rattle.pt_host.specs.Name.{IsName};
-ghost use Rattle.pt_store.specs.Spelling.{spelled_file, spelling, IsFile};
+ghost use Rattle.pt_store.specs.Spelling.{spelled_file, IsFile, SpellsFiles};
 ghost use Rattle.pt_store.specs.Entries.{AreEntries};
 
 use crate::entry::Entry;
@@ -11,9 +11,8 @@ use std::alloc::{AllocError, Global};
 
 /// The spelling of the map, and an entry for each of its files.
 pub(crate) fn spell(alloc: Global, files: &[(Name, List<u8>)]) -> Result<(Vec<u8>, List<Entry>), AllocError>
-    ensures spelled { IfOk result (λ r. r.0.items ≡ spelling files.now) }
+    ensures spelled { IfOk result (λ r. SpellsFiles r.0.items files.now) }
     ensures entries { IfOk result (λ r. AreEntries r.0.items r.1 files.now) }
-    ensures each { IfOk result (λ r. All IsFile files.now) }
 {
     let mut out = Vec::new(alloc);
     let mut entries = List::new(alloc);

@@ -22,10 +22,7 @@ loop-name-preserved c =
     refl long (omega (arith, c.len.ensures, c.put_file.new.out.ok, long)))
 
 pub returns-clause-spelled : goal.returns-clause-spelled
-returns-clause-spelled c = writing_ends _ _ _ (writing_through _ _ _ _ c.loop-name-test.false c.loop-name.invariant)
+returns-clause-spelled c = writing_ends _ _ _ (omega arith) (writing_through _ _ _ _ c.loop-name-test.false c.loop-name.invariant)
 
 pub returns-clause-entries : goal.returns-clause-entries
 returns-clause-entries c = (writing_through _ _ _ _ c.loop-name-test.false c.loop-name.invariant).entries_are
-
-pub returns-clause-each : goal.returns-clause-each
-returns-clause-each c = (writing_through _ _ _ _ c.loop-name-test.false c.loop-name.invariant).each

@@ -1,0 +1,7 @@
+use Rattle.std.proofs.Common.{◌∙◌, ap}
+use Rattle.std.specs.Option.{option_map}
+use Rattle.pt_store.proofs.Held.{no_entries_read}
+use Rattle.pt_store.proofs.disk.read_entries.Goals as goal
+
+pub returns-in_default-clause-found : goal.returns-in_default-clause-found
+returns-in_default-clause-found g c = λ tells. no_entries_read _ _ (rw c.in_default.is at (c.in_ok-bytes.ensures.bytes tells)) c.new.ensures
