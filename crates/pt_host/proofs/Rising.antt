@@ -1,6 +1,6 @@
 -- Files listed in rising order of their names.
 use Rattle.std.proofs.Common.{◌≡◌, ℕ, ◌+◌, ◌<◌, Bool, true, false, List, [], ◌∷◌, length, get_or, map, refl, sym, ap, ap₂, ◌∙◌, subst, arith, IsTrue, Ordering, Less}
-use Rattle.std.specs.List.{IsAllAdjacentAnswer}
+use Rattle.std.specs.List.{IsAllAdjacentAnswer, AllByRecursion}
 use Rattle.std.specs.Cmp.Lexicographic.{slice_cmp, nat_list_cmp_total}
 use Rattle.std.specs.Ordering.{nat_cmp, is_lt}
 use Rattle.std.specs.List.Sorted.{IsStrictlySortedBy}
@@ -10,6 +10,14 @@ use Rattle.pt_host.specs.Listed.{AreRising}
 
 less_from_is_lt : (o : Ordering) → true ≡ is_lt o → o ≡ Less
 less_from_is_lt o e = grind arith
+
+pub sorted_nil : {K : Type 0} (cmp : K → K → Ordering) → IsStrictlySortedBy cmp []
+unfolding IsStrictlySortedBy
+sorted_nil cmp = tt
+
+pub sorted_cons : {K : Type 0} (cmp : K → K → Ordering) (x : K) (xs : List K) → AllByRecursion (λ y. cmp x y ≡ Less) xs → IsStrictlySortedBy cmp xs → IsStrictlySortedBy cmp (x ∷ xs)
+unfolding IsStrictlySortedBy
+sorted_cons cmp x xs first rest = (first, rest)
 
 -- Elements by a key: the test of each two neighbours is the test of all.
 module _ {X : Type 0} (key : X → List ℕ) where

@@ -4,5 +4,5 @@ pub mod Writing
 pub mod Once
 pub mod Placed
 pub mod Steps
-pub mod Held
+pub mod Kept
 pub mod Moments

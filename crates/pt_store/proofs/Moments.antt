@@ -73,6 +73,16 @@ module _ (old cleared read : World) (sound : IsSound cleared.now.fs) (rest : IsA
             (complete (bytes_of (shown cleared.now.fs whole_name)) has.files has.are);
       })
 
+-- what changes nothing on the disk leaves the store standing, as a `say` or a `take`
+pub store_kept : (old new : World) (store : Store) (files : List (List ℕ × List ℕ)) → new.now.fs ≡ old.now.fs → new.dir ≡ old.dir → IsStore store files old → IsStore store files new
+store_kept old new store files same dir is = record {
+  live = is.live;
+  left = subst (λ (fs : Fs). EachImage fs (IsLeft files)) (sym same) is.left;
+  entered = subst IsSome (sym dir) is.entered;
+  settled = ap (λ (fs : Fs). fs.pending) same ∙ is.settled;
+  here = subst (λ (fs : Fs). AreEntries (bytes_of (shown fs whole_name)) store.entries files) (sym same) is.here;
+}
+
 -- # A map is replaced
 
 serials_is : (name : List ℕ) (o : Ordering) → slice_cmp nat_cmp name serials_name ≡ o → name ≡ serials_name → o ≡ Equal

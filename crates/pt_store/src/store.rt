@@ -93,7 +93,7 @@ impl Store {
         ensures stands { H.tells → (files : Listed (Listed ℕ × Listed ℕ)) → IsStore self.now files (H.world host.old) → IsStore self.now files (H.world host.new) }
         // At every moment, whatever is answered, the directory stands for it.
         ensures left { H.tells → (files : Listed (Listed ℕ × Listed ℕ)) → IsStore self.now files (H.world host.old) → IsQuiet (H.world host.old) (H.world host.new) (IsLeft files) }
-        ensures bad { IfBad result (λ name place. H.tells → ⊥) }
+        ensures bad { IfBad result (λ name place. (name ≡ whole_name) × (place ≡ 0) × (H.tells → ⊥)) }
         ensures disk { Counts (H.disk_faults host.old) (H.disk_faults host.new) result }
         ensures input { H.in_faults host.new ≡ H.in_faults host.old }
         ensures output { H.out_faults host.new ≡ H.out_faults host.old }

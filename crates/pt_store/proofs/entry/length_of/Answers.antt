@@ -1,6 +1,6 @@
 use Rattle.std.proofs.Common.{◌∙◌, ap}
 use Rattle.std.specs.Option.{option_map}
-use Rattle.pt_store.proofs.Held.{found_length}
+use Rattle.pt_store.proofs.Kept.{found_length}
 use Rattle.pt_store.proofs.entry.length_of.Goals as goal
 
 pub returns-in_err-entry : goal.returns-in_err-entry

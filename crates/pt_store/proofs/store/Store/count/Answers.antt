@@ -1,5 +1,5 @@
 use Rattle.std.proofs.Common.{◌∙◌, ap, length}
-use Rattle.pt_store.proofs.Held.{count_is}
+use Rattle.pt_store.proofs.Kept.{count_is}
 use Rattle.pt_store.proofs.store.Store.count.Goals as goal
 
 pub returns-clause-map : goal.returns-clause-map

@@ -1,5 +1,5 @@
 use Rattle.std.proofs.Common.{◌∙◌}
-use Rattle.pt_store.proofs.Held.{length_is}
+use Rattle.pt_store.proofs.Kept.{length_is}
 use Rattle.pt_store.proofs.store.Store.length.Goals as goal
 
 pub returns-clause-map : goal.returns-clause-map

@@ -1,5 +1,5 @@
 use Rattle.std.proofs.Common.{◌≡◌, ◌∙◌, ap, sym, Some}
-use Rattle.pt_store.proofs.Held.{found, found_is, reads_nothing, reads_within, reads_bytes}
+use Rattle.pt_store.proofs.Kept.{found, found_is, reads_nothing, reads_within, reads_bytes}
 use Rattle.pt_store.proofs.store.Store.read.Goals as goal
 
 pub unwrap-entry-requires : goal.unwrap-entry-requires
