@@ -1,5 +1,5 @@
 -- What a store keeps of its map.
-use Rattle.std.proofs.Common.{◌≡◌, ◌≢◌, ℕ, zero, suc, ◌+◌, ◌<◌, ◌≤◌, Bool, true, false, cond, List, [], ◌∷◌, ◌++◌, length, map, take, drop, refl, sym, ap, ap₂, subst, ◌∙◌, arith, Bor}
+use Rattle.std.proofs.Common.{◌≡◌, ◌≢◌, ℕ, zero, suc, ◌+◌, ◌≤◌, Bool, true, false, cond, List, [], ◌∷◌, length, map, take, drop, refl, sym, ap, ap₂, subst, ◌∙◌, arith, Bor}
 use Rattle.std.specs.Prelude.{Option, Some, None, slice_get, IsSome, IsSomeAnd}
 use Rattle.std.specs.Option.{option_map, option_copied}
 use Rattle.std.specs.List.{find}
@@ -9,8 +9,8 @@ use Rattle.pt_store.specs.declared.entry.Entry.{Entry}
 use Rattle.pt_host.specs.Disk.{shown}
 use Rattle.pt_host.specs.World.{World}
 use Rattle.pt_store.specs.declared.store.Store.{Store}
-use Rattle.pt_store.specs.Left.{SpelledIn, whole_name}
-use Rattle.pt_store.specs.Entries.{IsEntry, AreEntries, HasEntries, bytes_of, size_of, length_in}
+use Rattle.pt_store.specs.Left.{whole_name}
+use Rattle.pt_store.specs.Entries.{AreEntries, HasEntries, bytes_of, size_of, length_in}
 use Rattle.pt_store.specs.Store.{IsStore, sizes, sizes_of}
 use Rattle.pt_store.proofs.Reading.{no_entries, entries_long}
 

@@ -1,11 +1,9 @@
 -- What the directory stands for, over runs of the store's calls.
-use Rattle.std.proofs.Common.{◌≡◌, ◌≢◌, ◌⊎◌, ℕ, zero, suc, ◌+◌, ◌<◌, Bool, true, List, [], ◌∷◌, length, map, get_or, All, refl, sym, ap, subst, ◌∙◌, arith, inl, inr, Ordering, Less, Equal, Greater}
-use Rattle.std.specs.Prelude.{Option, Some, None, IsSome, Contains}
-use Rattle.std.specs.List.{AllByRecursion}
+use Rattle.std.proofs.Common.{◌≡◌, ℕ, zero, suc, ◌<◌, true, List, [], ◌∷◌, length, map, get_or, All, refl, sym, ap, subst, ◌∙◌, arith, inl, inr, Ordering, Less, Equal, Greater}
+use Rattle.std.specs.Prelude.{Some, IsSome, Contains}
 use Rattle.std.specs.Cmp.Lexicographic.{slice_cmp}
 use Rattle.std.specs.Ordering.{nat_cmp}
-use Rattle.std.specs.List.Sorted.{IsStrictlySortedBy}
-use Rattle.std.proofs.lemmas.List.Elements.{All-from_recursion, All-get_or}
+use Rattle.std.proofs.lemmas.List.Elements.{All-from_recursion}
 use Rattle.std.proofs.lemmas.Map.Keys.{sorted_head, sorted_tail}
 use Rattle.pt_host.specs.Disk.{Fs, Files, IsImage, EachImage, IsAtRest, IsSound, shown}
 use Rattle.pt_host.specs.World.{World, IsQuiet}
@@ -21,7 +19,7 @@ use Rattle.pt_store.specs.Spelling.{SpellsFiles}
 use Rattle.pt_store.specs.Entries.{AreEntries, HasEntries, IsMeaningless, bytes_of}
 use Rattle.pt_store.specs.Left.{whole_name, shadow_name, serials_name, placed, with_serials, SpelledIn, StandsFor, Left, IsLeft, IsEither}
 use Rattle.pt_store.specs.Store.{IsStore}
-use Rattle.std.specs.Prelude.{Result, Ok, Err}
+use Rattle.std.specs.Prelude.{Err}
 use Rattle.pt_store.specs.declared.stop.Stop.{Stop}
 use Rattle.pt_store.specs.declared.stop.Stop.TheVariants.{NoMemory, Fault, Bad}
 use Rattle.pt_store.specs.Stops.{IfBad}
@@ -63,15 +61,18 @@ module _ (old cleared read : World) (sound : IsSound cleared.now.fs) (rest : IsA
   attached entries added clear same image entered has complete =
       let left : Left (shown old.now.fs) (with_serials has.files) =
       record { spelled = has.files; is = subst (λ whole. SpelledIn whole has.files) same_whole has.spelled; complete = refl } in
-      let each : EachImage old.now.fs (IsLeft (with_serials has.files)) = at_rest_left old.now.fs (with_serials has.files) rest left in
-      (with_serials has.files, each, record {
-        live = refl;
-        left = (image_then old cleared read (IsLeft (with_serials has.files)) (but_left old cleared (with_serials has.files) each but) image).now;
-        entered = subst IsSome (sym (image.dir ∙ but.dir)) entered;
-        settled = ap (λ (fs : Fs). fs.pending) same ∙ clear.settled;
-        here = subst (λ (fs : Fs). AreEntries (bytes_of (shown fs whole_name)) added (with_serials has.files)) (sym same)
-            (complete (bytes_of (shown cleared.now.fs whole_name)) has.files has.are);
-      })
+      let each : EachImage old.now.fs (IsLeft (with_serials has.files)) = at_rest_left old.now.fs (with_serials has.files) rest left in (
+        with_serials has.files,
+        each,
+        record {
+          live = refl;
+          left = (image_then old cleared read (IsLeft (with_serials has.files)) (but_left old cleared (with_serials has.files) each but) image).now;
+          entered = subst IsSome (sym (image.dir ∙ but.dir)) entered;
+          settled = ap (λ (fs : Fs). fs.pending) same ∙ clear.settled;
+          here = subst (λ (fs : Fs). AreEntries (bytes_of (shown fs whole_name)) added (with_serials has.files)) (sym same)
+              (complete (bytes_of (shown cleared.now.fs whole_name)) has.files has.are);
+        },
+      )
 
 -- what changes nothing on the disk leaves the store standing, as a `say` or a `take`
 pub store_kept : (old new : World) (store : Store) (files : List (List ℕ × List ℕ)) → new.now.fs ≡ old.now.fs → new.dir ≡ old.dir → IsStore store files old → IsStore store files new

@@ -1,5 +1,5 @@
 -- Bytes spell one map at most, and a directory stands for one at most.
-use Rattle.std.proofs.Common.{◌≡◌, ℕ, zero, suc, ◌+◌, ◌<◌, ◌^◌, Bool, true, false, List, [], ◌∷◌, ◌++◌, length, map, All, IsTrue, Ordering, Less, Equal, Greater, refl, sym, ap, ap₂, subst, ◌∙◌, arith}
+use Rattle.std.proofs.Common.{◌≡◌, ℕ, zero, suc, List, [], ◌∷◌, length, map, All, IsTrue, Ordering, Less, Equal, Greater, refl, sym, ap, ap₂, subst, ◌∙◌, arith}
 use Rattle.std.specs.Prelude.{Option, Some, None, Contains}
 use Rattle.std.specs.List.{flat_map, AllByRecursion}
 use Rattle.std.specs.Cmp.Lexicographic.{slice_cmp}
@@ -15,8 +15,8 @@ use Rattle.pt_host.proofs.Rising.{sorted_cons, sorted_nil}
 use Rattle.pt_host.specs.Name.{is_name_byte}
 use Rattle.pt_host.specs.Listed.{AreRising}
 use Rattle.pt_store.specs.declared.entry.Entry.{Entry}
-use Rattle.pt_store.specs.Spelling.{number, spelled_file, spelling, IsFile, IsMap, SpellsFiles, Spells}
-use Rattle.pt_store.specs.Entries.{IsEntry, AreEntries, Parses}
+use Rattle.pt_store.specs.Spelling.{spelled_file, spelling, IsFile, IsMap, SpellsFiles, Spells}
+use Rattle.pt_store.specs.Entries.{AreEntries, Parses}
 use Rattle.pt_store.specs.Left.{whole_name, with_serials, SpelledIn, StandsFor, Left, placed, serials_name}
 use Rattle.pt_store.proofs.Fields.{one_number, one_file}
 

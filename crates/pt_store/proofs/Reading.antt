@@ -1,15 +1,15 @@
 -- Files read one after the other, as a loop does.
-use Rattle.std.proofs.Common.{◌≡◌, ℕ, suc, ◌+◌, ◌-◌, ◌^◌, ◌<◌, ◌≤◌, List, [], ◌∷◌, ◌++◌, length, take, drop, All, refl, sym, ap, ap₂, subst, ◌∙◌, append_assoc, append-nil, arith, length-append, Bool, true, false, eqb}
+use Rattle.std.proofs.Common.{◌≡◌, ℕ, suc, ◌+◌, ◌-◌, ◌^◌, ◌<◌, ◌≤◌, List, [], ◌∷◌, ◌++◌, length, take, drop, All, refl, sym, ap, subst, ◌∙◌, append_assoc, append-nil, arith, length-append, Bool, true, false, eqb}
 use Rattle.std.proofs.lemmas.Bool.{eqb-true}
-use Rattle.std.specs.Prelude.{Option, Some, None}
-use Rattle.std.specs.List.{flat_map, AllZip}
+use Rattle.std.specs.Prelude.{Some}
+use Rattle.std.specs.List.{flat_map}
 use Rattle.std.proofs.lemmas.List.{take_at, drop_at, nil_from_length, flat_map_more}
 use Rattle.std.proofs.lemmas.List.Elements.{All-push, All-nil, All-head, All-tail}
-use Rattle.std.proofs.lemmas.Grind.{flat_map-append, common_steps}
+use Rattle.std.proofs.lemmas.Grind.{common_steps}
 use Rattle.pt_store.specs.declared.entry.Entry.{Entry}
 use Rattle.pt_store.specs.Spelling.{number, spelled_name, spelled_file, spelling, IsFile, SpellsFiles}
 use Rattle.pt_store.specs.Entries.{IsEntry, AreEntries, Parses}
-use Rattle.pt_store.proofs.Fields.{one_number, one_file, length-number, file_ends}
+use Rattle.pt_store.proofs.Fields.{one_number, one_file, file_ends}
 
 -- # Entries
 
@@ -103,7 +103,9 @@ module _ (bytes : List ℕ) (count done : ℕ) (entries : List Entry) (rest : Li
           → (file : List ℕ × List ℕ) × (after : List (List ℕ × List ℕ)) × (all ≡ (r.files ++ file ∷ []) ++ after) × IsFile file × (rest ≡ spelled_file file ++ flat_map spelled_file after)
       go [] long parts left = absurd (omega (arith, long, r.many, ap (λ (fs : List (List ℕ × List ℕ)). length fs) parts, length-append r.files []))
       go (file ∷ after) long parts left = (
-        file, after, parts ∙ sym (append_assoc r.files (file ∷ []) after),
+        file,
+        after,
+        parts ∙ sym (append_assoc r.files (file ∷ []) after),
         All-head IsFile file after (All-after IsFile r.files (file ∷ after) (subst (λ (fs : List (List ℕ × List ℕ)). All IsFile fs) parts s.each)),
         left,
       )

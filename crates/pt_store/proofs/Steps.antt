@@ -1,6 +1,6 @@
 -- The steps of the store's own file: its shadow, its reads and its replacement.
-use Rattle.std.proofs.Common.{◌≡◌, ◌≢◌, ◌⊎◌, ℕ, List, length, sym, ap, ◌∙◌, arith, inl, inr}
-use Rattle.pt_host.specs.Disk.{Fs, Files, IsImage, EachImage}
+use Rattle.std.proofs.Common.{◌≡◌, ◌≢◌, ◌⊎◌, ℕ, List, length, sym, ap, arith, inl, inr}
+use Rattle.pt_host.specs.Disk.{IsImage}
 use Rattle.pt_host.specs.World.{World, IsQuiet, after_look}
 use Rattle.pt_host.proofs.Runs.{quiet_same, look_quiet}
 use Rattle.pt_store.specs.Left.{whole_name, shadow_name}

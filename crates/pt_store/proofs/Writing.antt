@@ -1,11 +1,11 @@
 -- Files spelled one after the other, as a loop does.
-use Rattle.std.proofs.Common.{◌≡◌, ℕ, ◌+◌, ◌-◌, ◌^◌, ◌<◌, ◌≤◌, List, [], ◌∷◌, ◌++◌, length, take, drop, All, refl, sym, ap, ◌∙◌, append_assoc, append-nil, arith, length-append, subst}
+use Rattle.std.proofs.Common.{◌≡◌, ℕ, ◌-◌, ◌^◌, ◌<◌, ◌≤◌, List, [], ◌∷◌, ◌++◌, length, take, drop, All, sym, ap, ◌∙◌, append_assoc, append-nil, arith, length-append, subst}
 use Rattle.std.specs.List.{flat_map}
 use Rattle.std.proofs.lemmas.List.{flat_map_more, take_all}
 use Rattle.std.proofs.lemmas.List.Elements.{All-push, All-nil}
 use Rattle.pt_store.specs.declared.entry.Entry.{Entry}
 use Rattle.pt_store.specs.Spelling.{number, spelled_name, spelled_bytes, spelled_file, spelling, IsFile, SpellsFiles}
-use Rattle.pt_store.specs.Entries.{IsEntry, AreEntries}
+use Rattle.pt_store.specs.Entries.{AreEntries}
 use Rattle.pt_store.proofs.Fields.{file_ends}
 use Rattle.pt_store.proofs.Reading.{no_entries, push_entry, entries_more, part_here, length-file}
 
@@ -34,15 +34,15 @@ module _ (out longer : List ℕ) (file : List ℕ × List ℕ) (e : longer ≡ o
     entries_are = push_entry longer entries done entry file
         (subst (λ (b : List ℕ). AreEntries b entries done) (sym e) (entries_more out (spelled_file file) entries done w.entries_are))
         (record {
-      named = name;
-      long = long;
-      within = omega (arith, place, long, content_written);
-      here = ap (λ n. take n (drop entry.place longer)) long
-          ∙ part_here longer (out ++ (spelled_name file.0 ++ number (length file.1))) file.1 [] entry.place
-          (e ∙ ap (λ (b : List ℕ). out ++ b) (file_ends file) ∙ sym (append_assoc out (spelled_name file.0 ++ number (length file.1)) file.1)
-          ∙ ap (λ (b : List ℕ). (out ++ (spelled_name file.0 ++ number (length file.1))) ++ b) (sym (append-nil file.1)))
-          (place ∙ ap (λ n. n - length file.1) (let none : length longer ≡ length longer - 0 = omega arith in none));
-    });
+          named = name;
+          long = long;
+          within = omega (arith, place, long, content_written);
+          here = ap (λ n. take n (drop entry.place longer)) long
+              ∙ part_here longer (out ++ (spelled_name file.0 ++ number (length file.1))) file.1 [] entry.place
+              (e ∙ ap (λ (b : List ℕ). out ++ b) (file_ends file) ∙ sym (append_assoc out (spelled_name file.0 ++ number (length file.1)) file.1)
+              ∙ ap (λ (b : List ℕ). (out ++ (spelled_name file.0 ++ number (length file.1))) ++ b) (sym (append-nil file.1)))
+              (place ∙ ap (λ n. n - length file.1) (let none : length longer ≡ length longer - 0 = omega arith in none));
+        });
     each = All-push IsFile done file w.each is;
   }
 

@@ -1,6 +1,5 @@
 -- What a store is, and what it stands for.
-use Rattle.std.specs.Prelude.{◌≡◌, ℕ, Bool, cond, List, [], ◌∷◌, length, map, Option, Some, None, IsSome, IsTrue}
-use Rattle.std.specs.Str.{bytes_eq}
+use Rattle.std.specs.Prelude.{◌≡◌, ℕ, Bool, List, [], length, map, IsSome, IsTrue}
 use Rattle.pt_host.specs.Disk.{EachImage, shown}
 use Rattle.pt_host.specs.World.{World}
 use Rattle.pt_store.specs.declared.store.Store.{Store}

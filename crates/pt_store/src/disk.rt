@@ -9,10 +9,9 @@ ghost use Rattle.pt_store.specs.Left.{whole_name, shadow_name};
 ghost use Rattle.pt_store.specs.Entries.{HasEntries, IsMeaningless};
 ghost use Rattle.pt_store.specs.Stops.{Counts, IfBad};
 
-use crate::Stop;
 use crate::entry::Entry;
-use crate::names;
 use crate::parse::parse;
+use crate::{Stop, names};
 use pt_host::{Host, HostFail};
 use pt_plain::List;
 use std::alloc::Global;
@@ -111,7 +110,12 @@ fn read_whole<H: Host>(alloc: Global, host: &mut H) -> Result<Option<Vec<u8>>, S
 }
 
 /// So many bytes of `whole.map`, from this place on.
-pub(crate) fn read_range<H: Host>(alloc: Global, host: &mut H, place: u64, count: u64) -> Result<Vec<u8>, Stop>
+pub(crate) fn read_range<H: Host>(
+    alloc: Global,
+    host: &mut H,
+    place: u64,
+    count: u64,
+) -> Result<Vec<u8>, Stop>
     requires { H.tells → IsSomeAnd (shown (H.world host.old).now.fs whole_name) (λ file. place + count ≤ length file) }
     ensures bytes { IfOk result (λ v. H.tells → IsSomeAnd (shown (H.world host.old).now.fs whole_name) (λ file. v.items ≡ take count (drop place file))) }
     ensures same { H.tells → (H.world host.new).now.fs ≡ (H.world host.old).now.fs }

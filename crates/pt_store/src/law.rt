@@ -9,5 +9,4 @@ pub fn stands_for_one_map()
     ensures once { (directory : Files) (a b : List (List ℕ × List ℕ)) → Left directory a → Left directory b → a ≡ b }
     ensures map { (directory : Files) (files : List (List ℕ × List ℕ)) → Left directory files → IsMap files }
     ensures serials { (directory : Files) (files : List (List ℕ × List ℕ)) → Left directory files → Contains (map (λ file. file.0) files) serials_name }
-{
-}
+{}

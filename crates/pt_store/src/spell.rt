@@ -10,7 +10,10 @@ use pt_plain::List;
 use std::alloc::{AllocError, Global};
 
 /// The spelling of the map, and an entry for each of its files.
-pub(crate) fn spell(alloc: Global, files: &[(Name, List<u8>)]) -> Result<(Vec<u8>, List<Entry>), AllocError>
+pub(crate) fn spell(
+    alloc: Global,
+    files: &[(Name, List<u8>)],
+) -> Result<(Vec<u8>, List<Entry>), AllocError>
     ensures spelled { IfOk result (λ r. SpellsFiles r.0.items files.now) }
     ensures entries { IfOk result (λ r. AreEntries r.0.items r.1 files.now) }
 {

@@ -108,7 +108,12 @@ impl Store {
 
     /// Puts this map in the place of the old one. `NoMemory` leaves all as it was. After `Fault` the store is no
     /// longer live.
-    pub fn replace<H: Host>(&mut self, alloc: Global, host: &mut H, files: &Files) -> Result<(), Stop>
+    pub fn replace<H: Host>(
+        &mut self,
+        alloc: Global,
+        host: &mut H,
+        files: &Files,
+    ) -> Result<(), Stop>
         requires live { IsTrue (is_live self.old) }
         requires rising { AreRising files.now }
         requires serials { Contains (map (λ file. file.0) files.now) serials_name }

@@ -1,5 +1,5 @@
 use Rattle.std.proofs.Common.{inr, arith}
-use Rattle.pt_host.proofs.Replacement.{then_but, idle_but, create_but, failed_write_but, write_but, sync_but, filled, draft_after_create, draft_after_write}
+use Rattle.pt_host.proofs.Replacement.{then_but, idle_but, create_but, failed_write_but, write_but, sync_but, filled, draft_after_create}
 use Rattle.pt_store.specs.Left.{shadow_name}
 use Rattle.pt_store.proofs.disk.fill_shadow.Goals as goal
 

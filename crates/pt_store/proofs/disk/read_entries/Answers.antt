@@ -1,5 +1,3 @@
-use Rattle.std.proofs.Common.{◌∙◌, ap}
-use Rattle.std.specs.Option.{option_map}
 use Rattle.pt_store.proofs.Kept.{no_entries_read}
 use Rattle.pt_store.proofs.disk.read_entries.Goals as goal
 

@@ -2,7 +2,6 @@ use Rattle.std.proofs.Common.{inr}
 use Rattle.pt_host.proofs.Replacement.{then_but, but_either, either_then, rename_either, swapped_after}
 use Rattle.pt_host.proofs.Runs.{idle_then}
 use Rattle.pt_host.proofs.Operations.{sync_names_then}
-use Rattle.pt_host.specs.Replacement.{IsBeforeOrAfter}
 use Rattle.pt_store.specs.Left.{whole_name, shadow_name}
 use Rattle.pt_store.proofs.Steps.{apart, apart_back}
 use Rattle.pt_store.proofs.disk.replace_whole.Goals as goal

@@ -1,6 +1,5 @@
-use Rattle.std.proofs.Common.{◌≡◌, List, subst, Less, Equal, Greater}
-use Rattle.pt_store.specs.declared.entry.Entry.{Entry}
-use Rattle.pt_store.proofs.Placed.{AreBefore, at_end, in_front, already, stands_at, before_more, before_all}
+use Rattle.std.proofs.Common.{Less, Equal, Greater}
+use Rattle.pt_store.proofs.Placed.{at_end, in_front, already, stands_at, before_more, before_all}
 use Rattle.pt_store.proofs.serials.add_serials.Goals as goal
 
 pub loop-i-preserved : goal.loop-i-preserved

@@ -1,4 +1,4 @@
-use Rattle.std.proofs.Common.{◌≡◌, ◌++◌, length, subst, List, ℕ}
+use Rattle.std.proofs.Common.{◌≡◌, ◌++◌, subst, List, ℕ}
 use Rattle.pt_store.specs.Spelling.{number, spelled_file}
 use Rattle.pt_store.proofs.Writing.{file_written}
 use Rattle.pt_store.proofs.spell.put_file.Goals as goal

@@ -1,8 +1,7 @@
-use Rattle.std.proofs.Common.{◌≡◌, ◌≤◌, ◌-◌, List, ℕ, length, take, refl, ap, ◌∙◌, sym, subst, arith, All}
+use Rattle.std.proofs.Common.{◌≡◌, List, ℕ, length, refl, ap, arith}
 use Rattle.std.proofs.lemmas.List.{take_more}
-use Rattle.pt_store.specs.Spelling.{number, spelled_file, IsFile}
-use Rattle.pt_store.specs.Entries.{AreEntries}
-use Rattle.pt_store.proofs.Writing.{Writing, writing_starts, content_written, writes_file, writing_through, writing_ends}
+use Rattle.pt_store.specs.Spelling.{number}
+use Rattle.pt_store.proofs.Writing.{writing_starts, content_written, writes_file, writing_through, writing_ends}
 use Rattle.pt_store.proofs.spell.spell.Goals as goal
 
 pub loop-name-init : goal.loop-name-init

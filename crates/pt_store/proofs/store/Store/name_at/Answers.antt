@@ -1,7 +1,4 @@
-use Rattle.std.proofs.Common.{◌∙◌, ap, map}
-use Rattle.std.specs.Prelude.{slice_get}
-use Rattle.std.specs.Option.{option_map}
-use Rattle.pt_store.specs.Entries.{size_of}
+use Rattle.std.proofs.Common.{◌∙◌}
 use Rattle.pt_store.proofs.Kept.{name_is}
 use Rattle.pt_store.proofs.store.Store.name_at.Goals as goal
 

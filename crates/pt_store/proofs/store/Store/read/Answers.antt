@@ -1,4 +1,4 @@
-use Rattle.std.proofs.Common.{◌≡◌, ◌∙◌, ap, sym, Some}
+use Rattle.std.proofs.Common.{◌∙◌, ap, sym, Some}
 use Rattle.pt_store.proofs.Kept.{found, found_is, reads_nothing, reads_within, reads_bytes}
 use Rattle.pt_store.proofs.store.Store.read.Goals as goal
 

@@ -1,4 +1,3 @@
-use Rattle.std.proofs.Common.{◌∙◌}
 use Rattle.pt_store.proofs.Kept.{entry_sizes}
 use Rattle.pt_store.proofs.Moments.{spelled_stands, either_left, replaced}
 use Rattle.pt_store.proofs.store.Store.replace.Goals as goal
