@@ -1,12 +1,14 @@
 -- A map with a `serials.cnt` in it, and its entries.
-use Rattle.std.proofs.Common.{◌≡◌, ℕ, zero, suc, ◌+◌, ◌<◌, ◌≤◌, List, [], ◌∷◌, ◌++◌, length, get_or, refl, sym, ap, subst, ◌∙◌, arith, Ordering, Less, Equal, Greater, inl, inr}
+use Rattle.std.proofs.Common.{◌≡◌, ℕ, zero, suc, ◌+◌, ◌<◌, ◌≤◌, Bool, true, false, cond, is_some, List, [], ◌∷◌, ◌++◌, length, map, take, drop, get_or, refl, sym, ap, subst, ◌∙◌, arith, Ordering, Less, Equal, Greater, inl, inr}
 use Rattle.std.proofs.lemmas.Bool.{cases_lt}
 use Rattle.std.proofs.lemmas.List.Elements.{at_read}
-use Rattle.std.specs.Prelude.{insert}
+use Rattle.std.specs.Prelude.{insert, Some, IsSome}
+use Rattle.std.specs.Str.{bytes_eq}
+use Rattle.std.proofs.lemmas.Map.Text.{is_eq-slice_cmp}
 use Rattle.std.specs.Cmp.Lexicographic.{slice_cmp}
-use Rattle.std.specs.Ordering.{nat_cmp}
+use Rattle.std.specs.Ordering.{nat_cmp, is_eq}
 use Rattle.pt_store.specs.declared.entry.Entry.{Entry}
-use Rattle.pt_store.specs.Entries.{IsEntry, AreEntries}
+use Rattle.pt_store.specs.Entries.{IsEntry, AreEntries, size_of, length_in}
 use Rattle.pt_store.specs.Left.{serials_name, with_serials}
 
 -- the entry of no bytes at all
@@ -72,3 +74,29 @@ before_more entries i before here k d below =
 
 pub before_all : (entries : List Entry) (i : ℕ) → length entries ≤ i → AreBefore entries i → AreBefore entries (length entries)
 before_all entries i through before k d below = before k d (omega arith)
+
+-- # The entries have a `serials.cnt`
+
+-- it has a length among them
+abbrev pub HasSerials : List Entry → Type 0
+HasSerials entries = IsSome (length_in (map size_of entries) serials_name)
+
+has_behind : (front back : List Entry) → HasSerials back → HasSerials (front ++ back)
+has_behind [] back has = has
+has_behind (e ∷ front) back has = go (bytes_eq e.name serials_name) (has_behind front back has)
+  where
+    go : (same : Bool) → HasSerials (front ++ back) → IsSome (cond same (Some e.length) (length_in (map size_of (front ++ back)) serials_name))
+    go true rest = refl
+    go false rest = rest
+
+pub has_at_end : (entries : List Entry) → HasSerials (entries ++ nowhere ∷ [])
+has_at_end entries = has_behind entries (nowhere ∷ []) refl
+
+pub has_inserted : (entries : List Entry) (i : ℕ) → HasSerials (insert entries i nowhere)
+has_inserted entries i = has_behind (take i entries) (nowhere ∷ drop i entries) refl
+
+pub has_already : (entries : List Entry) (i : ℕ) (entry : Entry) → i < length entries → ((d : Entry) → stands (get_or entries i d) ≡ Equal) → HasSerials entries
+has_already [] i entry within same = absurd (omega arith)
+has_already (e ∷ entries) zero entry within same =
+    ap (λ b. is_some (cond b (Some e.length) (length_in (map size_of entries) serials_name))) (sym (is_eq-slice_cmp e.name serials_name) ∙ ap is_eq (same e))
+has_already (e ∷ entries) (suc i) entry within same = has_behind (e ∷ []) entries (has_already entries i entry (omega arith) same)

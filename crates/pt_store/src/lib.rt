@@ -27,6 +27,7 @@ mod serials;
 mod spell;
 mod stop;
 mod store;
+mod swap;
 
 pub use law::stands_for_one_map;
 pub use stop::Stop;

@@ -9,10 +9,11 @@ ghost use Rattle.pt_store.specs.Entries.{length_in};
 ghost use Rattle.pt_store.specs.Store.{IsStore, IsStanding, is_live, sizes, sizes_of};
 
 use crate::Stop;
-use crate::disk::{clear_shadow, read_entries, read_range, replace_whole};
+use crate::disk::{clear_shadow, read_entries, read_range};
 use crate::entry::{Entry, entry_of, length_of, name_of};
 use crate::serials::add_serials;
 use crate::spell::spell;
+use crate::swap::replace_whole;
 use pt_host::{Files, Host, Name};
 use pt_plain::List;
 use std::alloc::Global;
@@ -39,6 +40,7 @@ impl Store {
         ensures left { H.tells → (files : Listed (Listed ℕ × Listed ℕ)) → EachImage (H.world host.old).now.fs (IsLeft files) → IsQuiet (H.world host.old) (H.world host.new) (IsLeft files) }
         ensures bad { IfBad result (λ name place. (name ≡ whole_name) × (place ≡ 0) × (H.tells → (files : Listed (Listed ℕ × Listed ℕ)) → Left (shown (H.world host.old).now.fs) files → ⊥)) }
         ensures live { IfOk result (λ store. IsTrue (is_live store)) }
+        ensures serials { IfOk result (λ store. IsSome (length_in (sizes store) serials_name)) }
         ensures disk { Counts (H.disk_faults host.old) (H.disk_faults host.new) result }
         ensures input { H.in_faults host.new ≡ H.in_faults host.old }
         ensures output { H.out_faults host.new ≡ H.out_faults host.old }

@@ -34,7 +34,7 @@ pub returns-clause-stands : goal.returns-clause-stands
 returns-clause-stands g c = λ tells.
     attached _ _ _ (g.met.H.Host.sound c.clear_shadow.new.host tells) (c.requires.rest tells) (c.in_ok-clear_shadow.ensures.quiet tells)
     _ _ (c.in_ok-clear_shadow.ensures.clear tells) (c.in_ok-entries.ensures.same tells) (c.in_ok-entries.ensures.quiet tells) (c.requires.entered tells)
-    (c.in_ok-entries.ensures.found tells) c.in_ok-add_serials.ensures
+    (c.in_ok-entries.ensures.found tells) c.in_ok-add_serials.ensures.files
 
 pub returns-clause-left : goal.returns-clause-left
 returns-clause-left g c = λ tells files left.

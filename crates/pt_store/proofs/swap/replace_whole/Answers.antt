@@ -4,7 +4,7 @@ use Rattle.pt_host.proofs.Runs.{idle_then}
 use Rattle.pt_host.proofs.Operations.{sync_names_then}
 use Rattle.pt_store.specs.Left.{whole_name, shadow_name}
 use Rattle.pt_store.proofs.Steps.{apart, apart_back}
-use Rattle.pt_store.proofs.disk.replace_whole.Goals as goal
+use Rattle.pt_store.proofs.swap.replace_whole.Goals as goal
 
 pub returns-in_err-clear_shadow-clause-quiet : goal.returns-in_err-clear_shadow-clause-quiet
 returns-in_err-clear_shadow-clause-quiet g c = λ tells. but_either _ _ whole_name shadow_name c.args.bytes.now apart (c.in_err-clear_shadow.ensures.quiet tells)
