@@ -1,0 +1,104 @@
+//! The file that the map stands in, as it is read, and a shadow of it that was left.
+ghost use Rattle.std.specs.Prelude.{◌≡◌, ◌+◌, ◌≤◌, [], length, take, drop, IfOk, OnOk, IsSome, IsSomeAnd};
+ghost use Rattle.std.specs.Option.{option_map};
+ghost use Rattle.pt_host.specs.Disk.{IsImage, shown};
+ghost use Rattle.pt_host.specs.World.{HasCause, IsQuiet};
+ghost use Rattle.pt_host.specs.Images.{IsHeld};
+ghost use Rattle.pt_host.specs.Replacement.{AsBeforeBut, IsBeforeOrAfter, IsClear, IsReady};
+ghost use Rattle.pt_store.specs.Left.{whole_name, shadow_name};
+ghost use Rattle.pt_store.specs.Entries.{HasEntries, IsMeaningless};
+ghost use Rattle.pt_store.specs.Stops.{Counts, IfBad};
+
+use crate::entry::Entry;
+use crate::parse::parse;
+use crate::{Stop, names};
+use pt_host::{Host, HostFail};
+use pt_plain::List;
+use std::alloc::Global;
+
+/// Removes a shadow that was left, if there is one.
+pub(crate) fn clear_shadow<H: Host>(host: &mut H) -> Result<(), HostFail>
+    requires entered { H.tells → IsSome (H.world host.old).dir }
+    requires settled { H.tells → (H.world host.old).now.fs.pending ≡ [] }
+    ensures clear { OnOk result (H.tells → IsClear (H.world host.new).now.fs shadow_name) }
+    ensures quiet { H.tells → IsQuiet (H.world host.old) (H.world host.new) (AsBeforeBut (H.world host.old).now.fs shadow_name) }
+    ensures disk { HasCause (H.disk_faults host.old) (H.disk_faults host.new) result }
+    ensures input { H.in_faults host.new ≡ H.in_faults host.old }
+    ensures output { H.out_faults host.new ≡ H.out_faults host.old }
+{
+    let shadow = names::shadow();
+    if host.length(&shadow)?.is_some() {
+        host.unlink(&shadow)?;
+        host.sync_names()?;
+    }
+    Ok(())
+}
+
+/// An entry for each file of the map that `whole.map` spells.
+pub(crate) fn read_entries<H: Host>(alloc: Global, host: &mut H) -> Result<List<Entry>, Stop>
+    requires { H.tells → IsSome (H.world host.old).dir }
+    ensures found { IfOk result (λ entries. H.tells → HasEntries (shown (H.world host.old).now.fs whole_name) entries) }
+    ensures same { H.tells → (H.world host.new).now.fs ≡ (H.world host.old).now.fs }
+    ensures quiet { H.tells → IsQuiet (H.world host.old) (H.world host.new) (IsImage (H.world host.old).now.fs) }
+    ensures bad { IfBad result (λ name place. (name ≡ whole_name) × (place ≡ 0) × (H.tells → IsMeaningless (shown (H.world host.old).now.fs whole_name))) }
+    ensures disk { Counts (H.disk_faults host.old) (H.disk_faults host.new) result }
+    ensures input { H.in_faults host.new ≡ H.in_faults host.old }
+    ensures output { H.out_faults host.new ≡ H.out_faults host.old }
+{
+    let Some(bytes) = read_whole(alloc, host)? else {
+        return Ok(List::new(alloc));
+    };
+    let Some(entries) = parse(alloc, bytes.as_slice())? else {
+        return Err(Stop::Bad {
+            name: names::whole(),
+            place: 0,
+        });
+    };
+    Ok(entries)
+}
+
+/// The bytes of `whole.map`, or `None` exactly where there is no such file.
+fn read_whole<H: Host>(alloc: Global, host: &mut H) -> Result<Option<Vec<u8>>, Stop>
+    requires { H.tells → IsSome (H.world host.old).dir }
+    ensures bytes { IfOk result (λ found. H.tells → shown (H.world host.old).now.fs whole_name ≡ option_map (λ v. v.items) found) }
+    ensures same { H.tells → (H.world host.new).now.fs ≡ (H.world host.old).now.fs }
+    ensures quiet { H.tells → IsQuiet (H.world host.old) (H.world host.new) (IsImage (H.world host.old).now.fs) }
+    ensures bad { IfBad result (λ name place. (name ≡ whole_name) × (place ≡ 0) × (H.tells → ⊥)) }
+    ensures disk { Counts (H.disk_faults host.old) (H.disk_faults host.new) result }
+    ensures input { H.in_faults host.new ≡ H.in_faults host.old }
+    ensures output { H.out_faults host.new ≡ H.out_faults host.old }
+{
+    let Some(length) = host.length(&names::whole())? else {
+        return Ok(None);
+    };
+    let bytes = read_range(alloc, host, 0, length)?;
+    Ok(Some(bytes))
+}
+
+/// So many bytes of `whole.map`, from this place on.
+pub(crate) fn read_range<H: Host>(
+    alloc: Global,
+    host: &mut H,
+    place: u64,
+    count: u64,
+) -> Result<Vec<u8>, Stop>
+    requires { H.tells → IsSomeAnd (shown (H.world host.old).now.fs whole_name) (λ file. place + count ≤ length file) }
+    ensures bytes { IfOk result (λ v. H.tells → IsSomeAnd (shown (H.world host.old).now.fs whole_name) (λ file. v.items ≡ take count (drop place file))) }
+    ensures same { H.tells → (H.world host.new).now.fs ≡ (H.world host.old).now.fs }
+    ensures quiet { H.tells → IsQuiet (H.world host.old) (H.world host.new) (IsImage (H.world host.old).now.fs) }
+    ensures bad { IfBad result (λ name place. (name ≡ whole_name) × (place ≡ 0) × (H.tells → ⊥)) }
+    ensures disk { Counts (H.disk_faults host.old) (H.disk_faults host.new) result }
+    ensures input { H.in_faults host.new ≡ H.in_faults host.old }
+    ensures output { H.out_faults host.new ≡ H.out_faults host.old }
+{
+    let whole = names::whole();
+    let mut bytes = Vec::from_elem(alloc, 0u8, count as usize)?;
+    let read = host.read_at(&whole, place, &mut bytes)?;
+    if read < bytes.len() {
+        return Err(Stop::Bad {
+            name: whole,
+            place: 0,
+        });
+    }
+    Ok(bytes)
+}
