@@ -94,3 +94,15 @@ impl<T: Copy> List<T> {
         Ok(List { vec })
     }
 }
+
+impl<T: PartialEq> PartialEq for List<T> {
+    ghost use Rattle.std.specs.Cmp.Lexicographic.{pointwise, lists_per};
+
+    ghost eq = { pointwise T.eq };
+
+    ghost laws = { lists_per T.laws };
+
+    fn eq(&self, other: &List<T>) -> bool {
+        self.items() == other.items()
+    }
+}
