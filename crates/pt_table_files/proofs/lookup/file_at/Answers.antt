@@ -1,0 +1,10 @@
+use Rattle.std.proofs.Common.{List, ℕ, ap, ◌∙◌}
+use Rattle.std.specs.Option.{option_map}
+use Rattle.pt_table_files.proofs.Lookups.{found_file}
+use Rattle.pt_table_files.proofs.lookup.file_at.Goals as goal
+
+pub returns-in_err-bytes : goal.returns-in_err-bytes
+returns-in_err-bytes c = rw c.from_residual.ensures (ap (option_map (λ (file : List ℕ × List ℕ). file.1)) c.in_err-bytes.ensures ∙ found_file c.args.files.now c.args.name.now)
+
+pub returns : goal.returns
+returns c = ap (option_map (λ (file : List ℕ × List ℕ). file.1)) c.in_ok-bytes.ensures ∙ found_file c.args.files.now c.args.name.now

@@ -1,0 +1,7 @@
+pub mod Numbers
+pub mod Definition
+pub mod Records
+pub mod Counter
+pub mod FileNames
+pub mod Holds
+pub mod Canonical
