@@ -1,12 +1,12 @@
 -- One statement more.
-use Rattle.std.proofs.Common.{◌≡◌, ℕ, suc, ◌+◌, ◌-◌, ◌<◌, ◌≤◌, List, [], ◌∷◌, ◌++◌, length, take, drop, refl, ap, ◌∙◌, sym, arith, append_assoc, take-append-drop}
+use Rattle.std.proofs.Common.{◌≡◌, ℕ, suc, ◌+◌, ◌-◌, ◌<◌, List, [], ◌∷◌, ◌++◌, length, take, drop, refl, ap, ◌∙◌, sym, arith, append_assoc, take-append-drop}
 use Rattle.std.proofs.lemmas.Grind.{common_steps}
 use Rattle.std.proofs.lemmas.List.{append-nil}
 use Rattle.std.specs.Prelude.{Option}
 use Rattle.pt_flat.specs.declared.data.Db.{Db}
 use Rattle.pt_flat.specs.declared.data.Stmt.{Stmt}
 use Rattle.pt_engine.specs.Reading.{Reads}
-use Rattle.pt_engine.specs.Answers.{AreRead, after_one, answer_to, after_all, answers, IsPrefix, StandsAfterSome}
+use Rattle.pt_engine.specs.Answers.{AreRead, after_one, answer_to, after_all, answers, IsPrefix, AreFirst, HoldsAfter, SaysWhole, SaysUpTo}
 
 pub length-read : (pieces : List (List ℕ)) (readings : List (Option Stmt)) → AreRead pieces readings → length readings ≡ length pieces
 length-read [] [] read = refl
@@ -47,42 +47,44 @@ front_answers db before readings m =
       is = ap (λ rs. before ++ answers db 1 rs) (sym (take-append-drop m readings)) ∙ ap (λ text. before ++ text) (answers-append db 1 (take m readings) (drop m readings)) ∙ sym (append_assoc before (answers db 1 (take m readings)) others);
     }
 
--- the answers to the first statements are said, and nothing else
-pub stands_whole : (Keeps : Db → Type 0) (db : Db) (statements : List (List ℕ)) (before said : List ℕ) (count : ℕ) (readings : List (Option Stmt))
-    → count ≤ length statements → AreRead (take count statements) readings → Keeps (after_all db readings) → said ≡ before ++ answers db 1 readings → StandsAfterSome Keeps db statements before said
-stands_whole Keeps db statements before said count readings within read keeps is = record {
-  k = count;
-  within = within;
-  readings = readings;
-  read = read;
-  keeps = keeps;
-  printed = rw is (front_answers db before readings (count - 1));
-  no_more = rw is (prefix_same (before ++ answers db 1 readings));
-}
+module _ (db : Db) (statements : List (List ℕ)) (before said : List ℕ) (count : ℕ) (readings : List (Option Stmt)) (first : AreFirst statements count readings) where
+  -- the answers to the first statements are said, and nothing else
+  pub says_whole : said ≡ before ++ answers db 1 readings → SaysWhole db statements before said count
+  says_whole is = record { readings = readings; first = first; is = is }
 
--- A part of the next statement's answer is said behind them, and its database is kept.
-pub stands_part : (Keeps : Db → Type 0) (db : Db) (statements : List (List ℕ)) (before said front rest piece : List ℕ) (count : ℕ) (readings : List (Option Stmt)) (reading : Option Stmt)
-    → count < length statements → take (count + 1) statements ≡ take count statements ++ piece ∷ [] → AreRead (take count statements) readings → Reads piece reading
-    → Keeps (after_one (after_all db readings) reading) → answer_to (after_all db readings) (count + 1) reading ≡ front ++ rest → said ≡ (before ++ answers db 1 readings) ++ front
-    → StandsAfterSome Keeps db statements before said
-stands_part Keeps db statements before said front rest piece count readings reading within next read reads keeps text is =
-    let at : length readings ≡ count = length-read (take count statements) readings read ∙ grind (arith, common_steps) in
-    let all = readings ++ reading ∷ [] in
-    let whole : answers db 1 all ≡ answers db 1 readings ++ front ++ rest =
-    answers-push db 1 readings reading ∙ ap (λ text. answers db 1 readings ++ text) (ap (λ n. answer_to (after_all db readings) n reading) (let e : 1 + length readings ≡ count + 1 = omega arith in e) ∙ text)
-    ∙ sym (append_assoc (answers db 1 readings) front rest) in
-    record {
-      k = count + 1;
-      within = omega arith;
-      readings = all;
-      read = rw next (read-append (take count statements) readings piece reading read reads);
-      keeps = rw (after_all-append db readings reading) keeps;
-      printed = record { rest = front; is = is ∙ ap (λ rs. (before ++ answers db 1 rs) ++ front) (sym (front_of readings reading count at)) };
-      no_more = record { rest = rest; is = ap (λ text. before ++ text) whole ∙ rw is (regroup before (answers db 1 readings) front rest) };
+  pub says_up_to : said ≡ before ++ answers db 1 readings → SaysUpTo db statements before said count
+  says_up_to is = record {
+    readings = readings;
+    first = first;
+    whole = rw is (front_answers db before readings (count - 1));
+    no_more = rw is (prefix_same (before ++ answers db 1 readings));
+  }
+
+  -- one statement more
+  module _ (piece : List ℕ) (reading : Option Stmt) (within : count < length statements) (next : take (count + 1) statements ≡ take count statements ++ piece ∷ []) (reads : Reads piece reading) where
+    pub first_push : AreFirst statements (count + 1) (readings ++ reading ∷ [])
+    first_push = record { within = omega arith; read = rw next (read-append (take count statements) readings piece reading first.read reads) }
+
+    pub holds_push : (Held : Db → Type 0) → Held (after_one (after_all db readings) reading) → HoldsAfter Held db statements (count + 1)
+    holds_push Held held = record { readings = readings ++ reading ∷ []; first = first_push; held = rw (after_all-append db readings reading) held }
+
+    pub long : length readings ≡ count
+    long = length-read (take count statements) readings first.read ∙ (let f : length (take count statements) ≡ count = grind (arith, common_steps) in f)
+
+    pub answers_more : answers db 1 (readings ++ reading ∷ []) ≡ answers db 1 readings ++ answer_to (after_all db readings) (count + 1) reading
+    answers_more = answers-push db 1 readings reading ∙ ap (λ n. answers db 1 readings ++ answer_to (after_all db readings) n reading) (let at = long in let e : 1 + length readings ≡ count + 1 = omega arith in e)
+
+    -- a part of its answer is said
+    pub says_part : (front rest : List ℕ) → answer_to (after_all db readings) (count + 1) reading ≡ front ++ rest → said ≡ (before ++ answers db 1 readings) ++ front → SaysUpTo db statements before said (count + 1)
+    says_part front rest text is = record {
+      readings = readings ++ reading ∷ [];
+      first = first_push;
+      whole = record { rest = front; is = is ∙ ap (λ rs. (before ++ answers db 1 rs) ++ front) (sym (front_of readings reading count long)) };
+      no_more = record { rest = rest; is = ap (λ xs. before ++ xs) (answers_more ∙ ap (λ xs. answers db 1 readings ++ xs) text) ∙ rw is (regroup before (answers db 1 readings) front rest) };
     }
-  where
-    front_of : (xs : List (Option Stmt)) (x : Option Stmt) (n : ℕ) → length xs ≡ n → take (n + 1 - 1) (xs ++ x ∷ []) ≡ xs
-    front_of xs x n e = grind (arith, common_steps)
+      where
+        front_of : (xs : List (Option Stmt)) (x : Option Stmt) (n : ℕ) → length xs ≡ n → take (n + 1 - 1) (xs ++ x ∷ []) ≡ xs
+        front_of xs x n e = grind (arith, common_steps)
 
-    regroup : (a b c d : List ℕ) → a ++ (b ++ c ++ d) ≡ ((a ++ b) ++ c) ++ d
-    regroup a b c d = simp append_assoc
+        regroup : (a b c d : List ℕ) → a ++ (b ++ (c ++ d)) ≡ ((a ++ b) ++ c) ++ d
+        regroup a b c d = simp append_assoc

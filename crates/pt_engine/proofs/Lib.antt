@@ -9,4 +9,8 @@ pub mod Cuts
 pub mod TakingLemmas
 pub mod InputLemmas
 pub mod AnswerLemmas
+pub mod SessionLemmas
 pub mod SayingLemmas
+pub mod OpeningLemmas
+pub mod RunLemmas
+pub mod EmptyDirectory

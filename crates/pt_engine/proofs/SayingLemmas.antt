@@ -1,116 +1,127 @@
--- Answers that are said, statement by statement.
+-- Statements that are answered one after the other.
 use Rattle.pt_engine.specs.declared.ending.Ending.{Ending}
-use Rattle.pt_engine.specs.declared.ending.Ending.TheVariants.{NoMemory, OutputFault}
-use Rattle.std.proofs.Common.{◌≡◌, ◌⊎◌, inl, inr, ℕ, ◌+◌, ◌<◌, List, [], ◌∷◌, ◌++◌, length, take, get_or, ap, ◌∙◌, sym, subst, arith, append_assoc}
-use Rattle.std.proofs.lemmas.Grind.{common_steps}
+use Rattle.pt_engine.specs.declared.ending.Ending.TheVariants.{Done, Usage, DiskFault, NoMemory, Damaged, InputFault, OutputFault, TooLong}
+use Rattle.pt_engine.specs.declared.session.Session.{Session}
+use Rattle.std.proofs.Common.{◌≡◌, inl, inr, ℕ, ◌+◌, ◌<◌, List, [], ◌∷◌, ◌++◌, length, take, get_or, refl, ap, ◌∙◌, sym, arith, append_assoc}
 use Rattle.std.proofs.lemmas.List.{append-nil, take_more}
 use Rattle.std.specs.Prelude.{Option}
-use Rattle.pt_host.specs.World.{World, after_say, Since}
-use Rattle.pt_host.proofs.Runs.{since_then, since_say, after_say_now, after_say_dir, after_say_input}
+use Rattle.pt_host.specs.Disk.{Files}
+use Rattle.pt_host.specs.World.{World}
+use Rattle.pt_host.proofs.Runs.{since_none, since_then, since_weaken}
 use Rattle.pt_flat.specs.declared.data.Db.{Db}
 use Rattle.pt_flat.specs.declared.data.Stmt.{Stmt}
 use Rattle.pt_engine.specs.Reading.{Reads}
-use Rattle.pt_engine.specs.Answers.{after_one, answer_to, after_all, answers, StandsAfterSome, StandsAfterWhole}
-use Rattle.pt_engine.specs.Saying.{AnswersOne, AnswersPart, SaysOnly, NotKept, empty_db, SaysInOrder, AnswersAt, AnswersFirst, AnswersSome}
-use Rattle.std.proofs.lemmas.List.Elements.{All-nil}
-use Rattle.pt_engine.specs.Script.{statements}
-use Rattle.pt_engine.specs.Run.{PrintsInOrder}
-use Rattle.pt_engine.proofs.AnswerLemmas.{stands_whole, length-read, read-append, after_all-append, answers-push, stands_part}
+use Rattle.pt_engine.specs.Answers.{HoldsAfter, after_one, answer_to, answers}
+use Rattle.pt_engine.specs.Kept.{HoldsIn, IsInOrder, KeepsInOrder, StandsAfter}
+use Rattle.pt_engine.specs.Session.{IsSession, IsWithin}
+use Rattle.pt_engine.specs.Saying.{EntersNothing, KeepsOne, AnswersOne, StandsOne, StopsOne, AnswersFirst, StandsFirst, StopsFirst}
+use Rattle.pt_engine.proofs.AnswerLemmas.{says_whole, says_up_to, says_part, holds_push, first_push, answers_more, after_all-append}
+use Rattle.pt_engine.proofs.SessionLemmas.{session_holds}
 
-pub next_piece : (statements : List (List ℕ)) (count : ℕ) (piece : List ℕ) → count < length statements → piece ≡ get_or statements count piece → take (count + 1) statements ≡ take count statements ++ piece ∷ []
+next_piece : (statements : List (List ℕ)) (count : ℕ) (piece : List ℕ) → count < length statements → piece ≡ get_or statements count piece → take (count + 1) statements ≡ take count statements ++ piece ∷ []
 next_piece statements count piece within is = take_more statements count piece within ∙ ap (λ p. take count statements ++ p ∷ []) (sym is)
 
-says_only : (part : List ℕ) (old w new : World) → SaysOnly old w → new ≡ after_say part w → SaysOnly old new
-says_only part old w new only is = record {
-  dir = ap (λ v. v.dir) is ∙ after_say_dir part w ∙ only.dir;
-  input = ap (λ v. v.input) is ∙ after_say_input part w ∙ only.input;
-  fs = ap (λ v. v.now.fs) is ∙ ap (λ m. m.fs) (after_say_now part w) ∙ only.fs;
+enters_then : (a b c : World) → EntersNothing a b → EntersNothing b c → EntersNothing a c
+enters_then a b c first then = record { dir = then.dir ∙ first.dir; input = then.input ∙ first.input }
+
+-- no statement was answered yet
+pub none_answered : (tells : Type 0) (statements : List (List ℕ)) (session : Session) (w : World) → (tells → IsSession session w) → AnswersFirst tells session.db statements 0 session w w
+none_answered tells statements session w is = record {
+  readings = [];
+  first = record { within = omega arith; read = tt };
+  after = refl;
+  only = λ told. record { dir = refl; input = refl };
+  said = λ told. sym (append-nil w.now.said);
+  stands = is;
+  in_order = λ told. since_none w _;
 }
 
-module _ (tells : Type 0) (db : Db) (statements : List (List ℕ)) (count : ℕ) (between : Db) (old w new : World) (piece : List ℕ)
-    (within : count < length statements) (is : piece ≡ get_or statements count piece) (had : AnswersFirst tells db statements count between old w) where
-  -- a part of the next answer is said
-  part_in_order : (reading : Option Stmt) → Reads piece reading → tells → (part rest : List ℕ) → answer_to between (count + 1) reading ≡ part ++ rest → new ≡ after_say part w → SaysInOrder db statements old new
-  part_in_order reading reads told part rest text same =
-      since_then old w new _ (had.in_order told)
-      (subst (λ v. Since w v (λ m. StandsAfterSome NotKept db statements old.now.said m.said)) (sym same)
-      (since_say part w _ (λ front others e. stands_part NotKept db statements old.now.said (w.now.said ++ front) front (others ++ rest) piece count had.readings reading within
-      (next_piece statements count piece within is) had.read reads tt
-      (ap (λ d. answer_to d (count + 1) reading) (sym had.after) ∙ text ∙ ap (λ xs. xs ++ rest) e ∙ append_assoc front others rest)
-      (ap (λ xs. xs ++ front) (had.said told)))))
+module _ (tells : Type 0) (db : Db) (statements : List (List ℕ)) (count : ℕ) (session : Session) (old w new : World) (piece : List ℕ)
+    (within : count < length statements) (is : piece ≡ get_or statements count piece) (had : AnswersFirst tells db statements count session old w) where
+  next : take (count + 1) statements ≡ take count statements ++ piece ∷ []
+  next = next_piece statements count piece within is
 
-  -- the moment after it
-  part_now : (reading : Option Stmt) → Reads piece reading → tells → (part rest : List ℕ) → answer_to between (count + 1) reading ≡ part ++ rest → new ≡ after_say part w → StandsAfterSome NotKept db statements old.now.said new.now.said
-  part_now reading reads told part rest text same =
-      stands_part NotKept db statements old.now.said new.now.said part rest piece count had.readings reading within
-      (next_piece statements count piece within is) had.read reads tt (ap (λ d. answer_to d (count + 1) reading) (sym had.after) ∙ text)
-      (ap (λ v. v.now.said) same ∙ ap (λ m. m.said) (after_say_now part w) ∙ ap (λ xs. xs ++ part) (had.said told))
+  module _ (reading : Option Stmt) (reads : Reads piece reading) where
+    -- the database before the statement, and the one after it
+    pub holds_before : (files : Files) → HoldsIn files session.db → HoldsAfter (HoldsIn files) db statements count
+    holds_before files held = record { readings = had.readings; first = had.first; held = rw (← had.after) held }
 
-  pub answered_part : tells → AnswersPart tells between (count + 1) piece w new → AnswersSome db statements old new
-  answered_part told next =
-      let said = next.said told in
-      record {
-        only = says_only said.0 old w new (had.only told) said.3;
-        in_order = part_in_order next.reading next.reads told said.0 said.1 said.2 said.3;
-        now = part_now next.reading next.reads told said.0 said.1 said.2 said.3;
-      }
+    pub holds_behind : (files : Files) → HoldsIn files (after_one session.db reading) → HoldsAfter (HoldsIn files) db statements (count + 1)
+    holds_behind files held = holds_push db statements [] [] count had.readings had.first piece reading within next reads (HoldsIn files) (rw (← had.after) held)
 
-  -- nothing more happens
-  pub answered_same : (tells → new ≡ w) → AnswersFirst tells db statements count between old new
-  answered_same same = record {
-    within = had.within;
-    readings = had.readings;
-    read = had.read;
-    after = had.after;
-    only = λ told. rw (same told) (had.only told);
-    said = λ told. rw (same told) (had.said told);
-    in_order = λ told. rw (same told) (had.in_order told);
+    -- a moment within the statement
+    within_one : tells → (said : List ℕ) (files : Files) → IsWithin session.db (after_one session.db reading) w.now.said (answer_to session.db (count + 1) reading) said files → IsInOrder db statements old.now.said said files
+    within_one told said files (inl before) = record {
+      k = count;
+      holds = holds_before files before.0;
+      says = says_up_to db statements old.now.said said count had.readings had.first (before.1 ∙ had.said told);
+    }
+    within_one told said files (inr behind) = record {
+      k = count + 1;
+      holds = holds_behind files behind.0;
+      says = says_part db statements old.now.said said count had.readings had.first piece reading within next reads behind.1.0 behind.1.1
+          (ap (λ d. answer_to d (count + 1) reading) (sym had.after) ∙ behind.1.2) (behind.1.3 ∙ ap (λ xs. xs ++ behind.1.0) (had.said told));
+    }
+
+    one_in_order : tells → KeepsOne (count + 1) reading session.db w new → KeepsInOrder db statements old new
+    one_in_order told keeps =
+        since_then old w new _ (had.in_order told)
+        (since_weaken w new _ _ (λ m each files image. within_one told m.said files (each files image)) keeps.moments)
+
+  pub answered_next : (after : Session) → AnswersOne tells (count + 1) piece session after w new → AnswersFirst tells db statements (count + 1) after old new
+  answered_next after one = record {
+    readings = had.readings ++ one.reading ∷ [];
+    first = first_push db statements [] [] count had.readings had.first piece one.reading within next one.reads;
+    after = one.after_is ∙ ap (λ d. after_one d one.reading) had.after ∙ sym (after_all-append db had.readings one.reading);
+    only = λ told. enters_then old w new (had.only told) (one.keeps told).only;
+    said = λ told. one.said told ∙ ap (λ xs. xs ++ answer_to session.db (count + 1) one.reading) (had.said told)
+        ∙ append_assoc old.now.said (answers db 1 had.readings) (answer_to session.db (count + 1) one.reading)
+        ∙ ap (λ d. old.now.said ++ (answers db 1 had.readings ++ answer_to d (count + 1) one.reading)) had.after
+        ∙ ap (λ xs. old.now.said ++ xs) (sym (answers_more db statements [] [] count had.readings had.first piece one.reading within next one.reads));
+    stands = one.session;
+    in_order = λ told. one_in_order one.reading one.reads told (one.keeps told);
   }
 
-  pub answered_next : (db_after : Db) → AnswersOne tells between (count + 1) piece db_after w new → AnswersFirst tells db statements (count + 1) db_after old new
-  answered_next db_after next =
-      let all = had.readings ++ next.reading ∷ [] in
-      let at : 1 + length had.readings ≡ count + 1 = let e = length-read (take count statements) had.readings had.read in let f : length (take count statements) ≡ count = grind (arith, common_steps) in omega arith in
-      record {
-        within = omega arith;
-        readings = all;
-        read = rw (next_piece statements count piece within is) (read-append (take count statements) had.readings piece next.reading had.read next.reads);
-        after = next.after ∙ ap (λ d. after_one d next.reading) had.after ∙ sym (after_all-append db had.readings next.reading);
-        only = λ told. says_only (answer_to between (count + 1) next.reading) old w new (had.only told) (next.said told);
-        said = λ told.
-            ap (λ v. v.now.said) (next.said told) ∙ ap (λ m. m.said) (after_say_now (answer_to between (count + 1) next.reading) w)
-            ∙ ap (λ xs. xs ++ answer_to between (count + 1) next.reading) (had.said told)
-            ∙ append_assoc old.now.said (answers db 1 had.readings) (answer_to between (count + 1) next.reading)
-            ∙ ap (λ xs. old.now.said ++ xs)
-            (ap (λ d. answers db 1 had.readings ++ answer_to d (count + 1) next.reading) had.after
-            ∙ ap (λ n. answers db 1 had.readings ++ answer_to (after_all db had.readings) n next.reading) (sym at)
-            ∙ sym (answers-push db 1 had.readings next.reading));
-        in_order = λ told. part_in_order next.reading next.reads told (answer_to between (count + 1) next.reading) [] (sym (append-nil (answer_to between (count + 1) next.reading))) (next.said told);
-      }
+  stands_first : (ending : Ending) (reading : Option Stmt) → Reads piece reading → tells → StandsOne ending (count + 1) reading session.db w new → StandsFirst ending db statements old new
+  stands_first NoMemory reading reads told one = (
+    count,
+    record {
+      says = says_whole db statements old.now.said new.now.said count had.readings had.first (one.0 ∙ had.said told);
+      holds = λ files image. holds_before reading reads files (one.1 files image);
+    },
+  )
+  stands_first DiskFault reading reads told one = (
+    count,
+    record {
+      says = says_whole db statements old.now.said new.now.said count had.readings had.first (one.0 ∙ had.said told);
+      holds = λ files image. elim (one.1 files image) [ inl before ↦ inl (holds_before reading reads files before) | inr behind ↦ inr (holds_behind reading reads files behind) ];
+    },
+  )
+  stands_first OutputFault reading reads told one = (
+    count + 1,
+    record {
+      some = omega arith;
+      says = says_part db statements old.now.said new.now.said count had.readings had.first piece reading within next reads one.0.0 one.0.1
+          (ap (λ d. answer_to d (count + 1) reading) (sym had.after) ∙ one.0.2) (one.0.3 ∙ ap (λ xs. xs ++ one.0.0) (had.said told));
+      holds = λ files image. holds_behind reading reads files (one.1 files image);
+    },
+  )
+  stands_first Done reading reads told one = absurd one
+  stands_first Usage reading reads told one = absurd one
+  stands_first (Damaged name place) reading reads told one = absurd one
+  stands_first InputFault reading reads told one = absurd one
+  stands_first TooLong reading reads told one = absurd one
 
--- The answers to the first statements are said whole, and nothing else.
-pub first_whole : (tells : Type 0) (db : Db) (statements : List (List ℕ)) (count : ℕ) (between : Db) (old new : World) → tells → AnswersFirst tells db statements count between old new → StandsAfterWhole NotKept db statements old.now.said new.now.said count
-first_whole tells db statements count between old new told first = record { within = first.within; readings = first.readings; read = first.read; keeps = tt; printed = first.said told }
+  pub stopped_in : (ending : Ending) → tells → StopsOne ending (count + 1) piece session.db w new → StopsFirst ending db statements old new
+  stopped_in ending told one = record {
+    only = enters_then old w new (had.only told) one.keeps.only;
+    in_order = one_in_order one.reading one.reads told one.keeps;
+    stands = stands_first ending one.reading one.reads told one.stands;
+  }
 
-pub first_some : (tells : Type 0) (db : Db) (statements : List (List ℕ)) (count : ℕ) (between : Db) (old new : World) → tells → AnswersFirst tells db statements count between old new → AnswersSome db statements old new
-first_some tells db statements count between old new told first = record {
-  only = first.only told;
-  in_order = first.in_order told;
-  now = stands_whole NotKept db statements old.now.said new.now.said count first.readings first.within first.read tt (first.said told);
+-- All of them were answered.
+pub all_answered : (tells : Type 0) (db : Db) (statements : List (List ℕ)) (count : ℕ) (session : Session) (old new : World) → AnswersFirst tells db statements count session old new → tells → StandsAfter db statements old.now.said new count
+all_answered tells db statements count session old new first told = record {
+  says = says_whole db statements old.now.said new.now.said count first.readings first.first (first.said told);
+  holds = λ files image. record { readings = first.readings; first = first.first; held = rw (← first.after) (session_holds session new (first.stands told) files image) };
 }
-
--- nothing was said
-pub prints_none : (old new : World) → new.now ≡ old.now → new.moments ≡ old.moments → PrintsInOrder old new
-prints_none old new now moments = record {
-  each = record { added = []; grows = moments ∙ sym (append-nil old.moments); each = All-nil (λ m. StandsAfterSome NotKept empty_db (statements old.input) old.now.said m.said) };
-  now = stands_whole NotKept empty_db (statements old.input) old.now.said new.now.said 0 [] (omega arith) tt tt (ap (λ m. m.said) now ∙ sym (append-nil old.now.said));
-}
-
--- the same beginning by other names
-pub same_start : (db other : Db) (statements others : List (List ℕ)) (before said : List ℕ) (k : ℕ) → db ≡ other → statements ≡ others → StandsAfterWhole NotKept db statements before said k → StandsAfterWhole NotKept other others before said k
-same_start db other statements others before said k d s stands = rw (← d, ← s) stands
-
--- an answer that wasn't said whole
-pub answers_err : (ending : Ending) (statements : List (List ℕ)) (old new : World) (Rises : Type 0) → (ending ≡ NoMemory) ⊎ ((ending ≡ OutputFault) × Rises) → (ending ≡ NoMemory → AnswersAt NoMemory statements old new) → AnswersAt ending statements old new
-answers_err ending statements old new Rises (inl e) whole = rw e (whole e)
-answers_err ending statements old new Rises (inr h) whole = rw h.0 tt

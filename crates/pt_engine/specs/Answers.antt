@@ -2,6 +2,7 @@
 use Rattle.std.specs.Prelude.{◌≡◌, ℕ, ◌+◌, ◌-◌, ◌≤◌, List, [], ◌∷◌, ◌++◌, length, take, Option, Some, None}
 use Rattle.pt_flat.specs.declared.data.Db.{Db}
 use Rattle.pt_flat.specs.declared.data.Stmt.{Stmt}
+use Rattle.pt_flat.specs.declared.data.Reply.{Reply}
 use Rattle.pt_flat.specs.Answer.{syntax}
 use Rattle.pt_flat.specs.Step.{after, reply_to}
 use Rattle.pt_engine.specs.Reading.{Reads}
@@ -23,6 +24,11 @@ abbrev pub answer_to : Db → ℕ → Option Stmt → List ℕ
 answer_to db number None = (syntax number).text
 answer_to db number (Some stmt) = (reply_to db stmt).text
 
+-- the whole reply to it
+abbrev pub IsReply : Db → ℕ → Option Stmt → Reply → Type 0
+IsReply db number None reply = reply ≡ syntax number
+IsReply db number (Some stmt) reply = reply ≡ reply_to db stmt
+
 -- the database after statements, in their order
 abbrev pub after_all : Db → List (Option Stmt) → Db
 after_all db [] = db
@@ -38,21 +44,26 @@ pub record IsPrefix (front whole : List ℕ) : Type 0 where
   pub rest : List ℕ
   pub is : whole ≡ front ++ rest
 
--- After the first k statements of a script that begins with this database the database is kept, in the sense of Keeps. Of
--- what was said since the beginning, the answers to the first k - 1 are whole, and nothing is past the k-th's.
-pub record StandsAfterSome (Keeps : Db → Type 0) (db : Db) (statements : List (List ℕ)) (before said : List ℕ) : Type 0 where
-  pub k : ℕ
+-- These are the readings of the first k statements.
+pub record AreFirst (statements : List (List ℕ)) (k : ℕ) (readings : List (Option Stmt)) : Type 0 where
   pub within : k ≤ length statements
-  pub readings : List (Option Stmt)
   pub read : AreRead (take k statements) readings
-  pub keeps : Keeps (after_all db readings)
-  pub printed : IsPrefix (before ++ answers db 1 (take (k - 1) readings)) said
-  pub no_more : IsPrefix said (before ++ answers db 1 readings)
 
--- After the first k statements the database is kept, and their answers are said whole and nothing else.
-pub record StandsAfterWhole (Keeps : Db → Type 0) (db : Db) (statements : List (List ℕ)) (before said : List ℕ) (k : ℕ) : Type 0 where
-  pub within : k ≤ length statements
+-- What is held, in the sense of Held, is the database after the first k statements of a script that begins with this one.
+pub record HoldsAfter (Held : Db → Type 0) (db : Db) (statements : List (List ℕ)) (k : ℕ) : Type 0 where
   pub readings : List (Option Stmt)
-  pub read : AreRead (take k statements) readings
-  pub keeps : Keeps (after_all db readings)
-  pub printed : said ≡ before ++ answers db 1 readings
+  pub first : AreFirst statements k readings
+  pub held : Held (after_all db readings)
+
+-- The answers to the first k statements are said whole, and nothing else.
+pub record SaysWhole (db : Db) (statements : List (List ℕ)) (before said : List ℕ) (k : ℕ) : Type 0 where
+  pub readings : List (Option Stmt)
+  pub first : AreFirst statements k readings
+  pub is : said ≡ before ++ answers db 1 readings
+
+-- The answers to the first k - 1 statements are said whole, and nothing is said past the k-th's.
+pub record SaysUpTo (db : Db) (statements : List (List ℕ)) (before said : List ℕ) (k : ℕ) : Type 0 where
+  pub readings : List (Option Stmt)
+  pub first : AreFirst statements k readings
+  pub whole : IsPrefix (before ++ answers db 1 (take (k - 1) readings)) said
+  pub no_more : IsPrefix said (before ++ answers db 1 readings)

@@ -3,6 +3,8 @@ use Rattle.std.specs.Prelude.{ℕ, List, [], ◌++◌, codes}
 use Rattle.std.specs.Fmt.{decimal}
 use Rattle.pt_engine.specs.declared.ending.Ending.{Ending}
 use Rattle.pt_engine.specs.declared.ending.Ending.TheVariants.{Done, Usage, DiskFault, NoMemory, Damaged, InputFault, OutputFault, TooLong}
+use Rattle.pt_store.specs.declared.stop.Stop.{Stop}
+use Rattle.pt_store.specs.declared.stop.Stop.TheVariants as stop
 
 abbrev pub code_of : Ending → ℕ
 code_of Done = 0
@@ -27,3 +29,9 @@ line_of (Damaged name place) = damaged_line name place
 line_of InputFault = codes "input fault"
 line_of OutputFault = codes "output fault"
 line_of TooLong = codes "too long"
+
+-- the ending that a stop of the store leads to
+abbrev pub ending_of : Stop → Ending
+ending_of stop.NoMemory = NoMemory
+ending_of stop.Fault = DiskFault
+ending_of (stop.Bad name place) = Damaged name place

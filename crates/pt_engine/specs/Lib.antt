@@ -7,5 +7,7 @@ pub mod Script
 pub mod Taking
 pub mod Input
 pub mod Answers
+pub mod Kept
+pub mod Session
 pub mod Saying
 pub mod Run

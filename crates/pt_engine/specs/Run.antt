@@ -1,12 +1,13 @@
 -- What a run says and leaves, by the words of the command line and what it began with.
 use Rattle.std.specs.Prelude.{◌≡◌, ◌⊎◌, ℕ, Bool, true, false, cond, List, [], ◌∷◌, length, codes, Option, Some, None}
 use Rattle.std.specs.Str.{bytes_eq}
-use Rattle.pt_host.specs.World.{World, Since}
+use Rattle.pt_host.specs.World.{World}
+use Rattle.pt_store.specs.Left.{whole_name}
+use Rattle.pt_flat.specs.declared.data.Db.{Db}
 use Rattle.pt_engine.specs.declared.ending.Ending.{Ending}
 use Rattle.pt_engine.specs.declared.ending.Ending.TheVariants.{Done, Usage, DiskFault, NoMemory, Damaged, InputFault, OutputFault, TooLong}
 use Rattle.pt_engine.specs.Script.{has_excess, statements}
-use Rattle.pt_engine.specs.Answers.{StandsAfterSome, StandsAfterWhole}
-use Rattle.pt_engine.specs.Saying.{NotKept, empty_db}
+use Rattle.pt_engine.specs.Kept.{StandsAfter, StandsKeeping, StandsSaying}
 
 -- The word DIR of `run DIR`, which is the one form of words.
 abbrev pub dir_of : List (List ℕ) → Option (List ℕ)
@@ -15,40 +16,40 @@ dir_of (command ∷ dir ∷ more ∷ words) = None
 dir_of (command ∷ []) = None
 dir_of [] = None
 
--- The answers to the first k statements are printed whole, and nothing else.
-abbrev pub PrintsWhole : World → World → ℕ → Type 0
-PrintsWhole old new k = StandsAfterWhole NotKept empty_db (statements old.input) old.now.said new.now.said k
-
--- of all statements
-abbrev pub PrintsAll : World → World → Type 0
-PrintsAll old new = PrintsWhole old new (length (statements old.input))
-
--- A whole script: the input was taken to its end, it keeps the limits, and exactly the answers are printed.
-pub record IsWholeRun (old new : World) : Type 0 where
+-- A whole script: the input was taken to its end, it keeps the limits, exactly the answers are printed, and every image
+-- holds the last database.
+pub record IsWholeRun (db : Db) (old new : World) : Type 0 where
   pub taken : new.input ≡ []
   pub within : has_excess old.input ≡ false
-  pub printed : PrintsAll old new
+  pub stands : StandsAfter db (statements old.input) old.now.said new (length (statements old.input))
 
--- A limit is passed, and the answers to the statements before the excess are printed.
-pub record IsCutRun (old new : World) : Type 0 where
+-- A limit is passed. The statements before the excess are executed and answered.
+pub record IsCutRun (db : Db) (old new : World) : Type 0 where
   pub passed : has_excess old.input ≡ true
-  pub printed : PrintsAll old new
+  pub stands : StandsAfter db (statements old.input) old.now.said new (length (statements old.input))
 
--- What is printed is a front of the answers, at each moment.
-pub record PrintsInOrder (old new : World) : Type 0 where
-  pub each : Since old new (λ m. StandsAfterSome NotKept empty_db (statements old.input) old.now.said m.said)
-  pub now : StandsAfterSome NotKept empty_db (statements old.input) old.now.said new.now.said
+-- What stands at each ending, where the directory held this database.
+abbrev pub StandsAt : Db → Ending → World → World → Type 0
+StandsAt db Done old new = IsWholeRun db old new
+StandsAt db TooLong old new = IsCutRun db old new
+StandsAt db NoMemory old new = (k : ℕ) × StandsAfter db (statements old.input) old.now.said new k
+StandsAt db InputFault old new = StandsAfter db (statements old.input) old.now.said new 0
+StandsAt db DiskFault old new = (k : ℕ) × StandsKeeping db (statements old.input) old.now.said new k
+StandsAt db OutputFault old new = (k : ℕ) × StandsSaying db (statements old.input) old.now.said new k
+StandsAt db Usage old new = new ≡ old
+StandsAt db (Damaged name place) old new = ⊥
 
--- What stands at each ending.
-abbrev pub StandsAt : Ending → World → World → Type 0
-StandsAt Done old new = IsWholeRun old new
-StandsAt TooLong old new = IsCutRun old new
-StandsAt NoMemory old new = (k : ℕ) × PrintsWhole old new k
-StandsAt DiskFault old new = PrintsWhole old new 0
-StandsAt InputFault old new = PrintsWhole old new 0
-StandsAt OutputFault old new = Unit {0}
-StandsAt Usage old new = new ≡ old
-StandsAt (Damaged name place) old new = ⊥
+-- Damage is told of `whole.map` at its first byte, with nothing printed, exactly where the directory held no database: but
+-- for words of no form only want of memory and a fault of the directory come before it.
+abbrev pub TellsDamage : Ending → (Db → Type 0) → World → World → Type 0
+TellsDamage (Damaged name place) Held old new = (name ≡ whole_name) × (place ≡ 0) × (new.now.said ≡ old.now.said) × ((db : Db) → Held db → ⊥)
+TellsDamage Done Held old new = (db : Db) × Held db
+TellsDamage TooLong Held old new = (db : Db) × Held db
+TellsDamage InputFault Held old new = (db : Db) × Held db
+TellsDamage OutputFault Held old new = (db : Db) × Held db
+TellsDamage NoMemory Held old new = Unit {0}
+TellsDamage DiskFault Held old new = Unit {0}
+TellsDamage Usage Held old new = Unit {0}
 
 -- Where no count rose, want of memory alone keeps a run from its end.
 abbrev pub IsComplete : Bool → Ending → Type 0
@@ -60,5 +61,15 @@ abbrev pub EndsTaken : Ending → Bool → Type 0
 EndsTaken Done too_long = too_long ≡ false
 EndsTaken TooLong too_long = too_long ≡ true
 EndsTaken NoMemory too_long = Unit {0}
+EndsTaken DiskFault too_long = Unit {0}
 EndsTaken OutputFault too_long = Unit {0}
 EndsTaken _ too_long = ⊥
+
+-- what stands of the statements at its end, behind what was said before
+abbrev pub StandsTaken : Ending → Db → List (List ℕ) → List ℕ → World → Type 0
+StandsTaken Done db statements before new = StandsAfter db statements before new (length statements)
+StandsTaken TooLong db statements before new = StandsAfter db statements before new (length statements)
+StandsTaken NoMemory db statements before new = (k : ℕ) × StandsAfter db statements before new k
+StandsTaken DiskFault db statements before new = (k : ℕ) × StandsKeeping db statements before new k
+StandsTaken OutputFault db statements before new = (k : ℕ) × StandsSaying db statements before new k
+StandsTaken _ db statements before new = ⊥

@@ -1,63 +1,83 @@
--- What is said while statements are answered.
-use Rattle.std.specs.Prelude.{◌≡◌, ℕ, ◌≤◌, List, [], ◌++◌, length, take, Option}
-use Rattle.pt_host.specs.World.{World, after_say, FailedSay, Since}
+-- What is kept and said while statements are answered. (In the shape of the code.)
+use Rattle.std.specs.Prelude.{◌≡◌, ◌⊎◌, ℕ, List, ◌++◌, Option}
+use Rattle.pt_host.specs.Disk.{EachImage}
+use Rattle.pt_host.specs.World.{World, Rose, Since}
 use Rattle.pt_flat.specs.declared.data.Db.{Db}
 use Rattle.pt_flat.specs.declared.data.Stmt.{Stmt}
-use Rattle.pt_engine.specs.Reading.{Reads}
-use Rattle.pt_engine.specs.Answers.{AreRead, after_one, answer_to, after_all, answers, StandsAfterSome, StandsAfterWhole}
+use Rattle.pt_engine.specs.declared.session.Session.{Session}
 use Rattle.pt_engine.specs.declared.ending.Ending.{Ending}
-use Rattle.pt_engine.specs.declared.ending.Ending.TheVariants.{Done, NoMemory, TooLong}
+use Rattle.pt_engine.specs.declared.ending.Ending.TheVariants.{DiskFault, NoMemory, OutputFault}
+use Rattle.pt_engine.specs.Reading.{Reads}
+use Rattle.pt_engine.specs.Answers.{AreFirst, after_one, answer_to, after_all, answers}
+use Rattle.pt_engine.specs.Kept.{HoldsIn, KeepsInOrder, StandsAfter, StandsKeeping, StandsSaying}
+use Rattle.pt_engine.specs.Session.{IsSession, IsWithin}
 
--- One statement was answered, and its answer said.
-pub record AnswersOne (tells : Type 0) (db : Db) (number : ℕ) (piece : List ℕ) (db_after : Db) (old new : World) : Type 0 where
-  pub reading : Option Stmt
-  pub reads : Reads piece reading
-  pub after : db_after ≡ after_one db reading
-  pub said : tells → new ≡ after_say (answer_to db number reading) old
-
--- A part of its answer was said, or none of it.
-pub record AnswersPart (tells : Type 0) (db : Db) (number : ℕ) (piece : List ℕ) (old new : World) : Type 0 where
-  pub reading : Option Stmt
-  pub reads : Reads piece reading
-  pub said : tells → FailedSay (answer_to db number reading) old new
-
--- nothing of a world but what was said
-pub record SaysOnly (old new : World) : Type 0 where
+-- nothing is entered, and nothing taken
+pub record EntersNothing (old new : World) : Type 0 where
   pub dir : new.dir ≡ old.dir
   pub input : new.input ≡ old.input
-  pub fs : new.now.fs ≡ old.now.fs
 
--- nothing is asked of the database
-abbrev pub NotKept : Db → Type 0
-NotKept db = Unit {0}
+-- one statement, and what it spells
+pub record IsRead (piece : List ℕ) : Type 0 where
+  pub reading : Option Stmt
+  pub reads : Reads piece reading
 
--- At each moment the answers to some of the statements are said, and no more.
-abbrev pub SaysInOrder : Db → List (List ℕ) → World → World → Type 0
-SaysInOrder db statements old new = Since old new (λ m. StandsAfterSome NotKept db statements old.now.said m.said)
+-- Of a statement: nothing is entered or taken, and at each moment it is kept or not, and a part of its answer said only
+-- where it is kept.
+pub record KeepsOne (number : ℕ) (reading : Option Stmt) (db : Db) (old new : World) : Type 0 where
+  pub only : EntersNothing old new
+  pub moments : Since old new (λ m. EachImage m.fs (IsWithin db (after_one db reading) old.now.said (answer_to db number reading) m.said))
 
--- the database without tables
-abbrev pub empty_db : Db
-empty_db = record { tables = []; next = 1 }
+-- One statement was executed and its database kept, and then its answer said.
+pub record AnswersOne (tells : Type 0) (number : ℕ) (piece : List ℕ) (before after : Session) (old new : World) : Type 0 where
+  pub reading : Option Stmt
+  pub reads : Reads piece reading
+  pub after_is : after.db ≡ after_one before.db reading
+  pub keeps : tells → KeepsOne number reading before.db old new
+  pub said : tells → new.now.said ≡ old.now.said ++ answer_to before.db number reading
+  pub session : tells → IsSession after new
 
--- how many of the answers stand printed whole at these endings
-abbrev pub AnswersAt : Ending → List (List ℕ) → World → World → Type 0
-AnswersAt Done statements old new = StandsAfterWhole NotKept empty_db statements old.now.said new.now.said (length statements)
-AnswersAt TooLong statements old new = StandsAfterWhole NotKept empty_db statements old.now.said new.now.said (length statements)
-AnswersAt NoMemory statements old new = (k : ℕ) × StandsAfterWhole NotKept empty_db statements old.now.said new.now.said k
-AnswersAt _ statements old new = Unit {0}
+-- what stands where a statement was stopped in
+abbrev pub StandsOne : Ending → ℕ → Option Stmt → Db → World → World → Type 0
+StandsOne NoMemory number reading db old new = (new.now.said ≡ old.now.said) × EachImage new.now.fs (λ files. HoldsIn files db)
+StandsOne DiskFault number reading db old new = (new.now.said ≡ old.now.said) × EachImage new.now.fs (λ files. HoldsIn files db ⊎ HoldsIn files (after_one db reading))
+StandsOne OutputFault number reading db old new =
+    ((front rest : List ℕ) × (answer_to db number reading ≡ front ++ rest) × (new.now.said ≡ old.now.said ++ front)) × EachImage new.now.fs (λ files. HoldsIn files (after_one db reading))
+StandsOne _ number reading db old new = ⊥
+
+-- One statement was stopped in.
+pub record StopsOne (ending : Ending) (number : ℕ) (piece : List ℕ) (db : Db) (old new : World) : Type 0 where
+  pub reading : Option Stmt
+  pub reads : Reads piece reading
+  pub keeps : KeepsOne number reading db old new
+  pub stands : StandsOne ending number reading db old new
+
+-- why it is
+abbrev pub StopsFor : Ending → ℕ → ℕ → ℕ → ℕ → Type 0
+StopsFor NoMemory disk disk_now output output_now = Unit {0}
+StopsFor DiskFault disk disk_now output output_now = Rose disk disk_now
+StopsFor OutputFault disk disk_now output output_now = Rose output output_now
+StopsFor _ disk disk_now output output_now = ⊥
 
 -- Of the statements so many were answered, and their answers said whole and nothing else.
-pub record AnswersFirst (tells : Type 0) (db : Db) (statements : List (List ℕ)) (count : ℕ) (db_after : Db) (old new : World) : Type 0 where
-  pub within : count ≤ length statements
+pub record AnswersFirst (tells : Type 0) (db : Db) (statements : List (List ℕ)) (count : ℕ) (session : Session) (old new : World) : Type 0 where
   pub readings : List (Option Stmt)
-  pub read : AreRead (take count statements) readings
-  pub after : db_after ≡ after_all db readings
-  pub only : tells → SaysOnly old new
+  pub first : AreFirst statements count readings
+  pub after : session.db ≡ after_all db readings
+  pub only : tells → EntersNothing old new
   pub said : tells → new.now.said ≡ old.now.said ++ answers db 1 readings
-  pub in_order : tells → SaysInOrder db statements old new
+  pub stands : tells → IsSession session new
+  pub in_order : tells → KeepsInOrder db statements old new
 
--- The answers to some of them were said, and perhaps a part of the next.
-pub record AnswersSome (db : Db) (statements : List (List ℕ)) (old new : World) : Type 0 where
-  pub only : SaysOnly old new
-  pub in_order : SaysInOrder db statements old new
-  pub now : StandsAfterSome NotKept db statements old.now.said new.now.said
+-- how many of them stand at each ending
+abbrev pub StandsFirst : Ending → Db → List (List ℕ) → World → World → Type 0
+StandsFirst NoMemory db statements old new = (k : ℕ) × StandsAfter db statements old.now.said new k
+StandsFirst DiskFault db statements old new = (k : ℕ) × StandsKeeping db statements old.now.said new k
+StandsFirst OutputFault db statements old new = (k : ℕ) × StandsSaying db statements old.now.said new k
+StandsFirst _ db statements old new = ⊥
+
+-- Some of them were answered, and then one was stopped in.
+pub record StopsFirst (ending : Ending) (db : Db) (statements : List (List ℕ)) (old new : World) : Type 0 where
+  pub only : EntersNothing old new
+  pub in_order : KeepsInOrder db statements old new
+  pub stands : StandsFirst ending db statements old new

@@ -1,63 +1,104 @@
-ghost use Rattle.std.specs.Prelude.{◌≡◌, ◌⊎◌, ◌≤◌, ℕ, Err, IfOk, IfErr, OnOk, OnErr, length};
-ghost use Rattle.pt_host.specs.World.{Rose};
+//! Answering statements one by one: each is read, executed, kept and then answered.
+ghost use Rattle.std.specs.Prelude.{◌≡◌, ◌⊎◌, ◌≤◌, ℕ, false, Err, IfOk, IfErr, OnOk, OnErr, length};
+ghost use Rattle.pt_host.specs.Disk.{EachImage};
+ghost use Rattle.pt_host.specs.World.{IsQuiet, Rose};
 ghost use Rattle.pt_flat.specs.declared.data.Db.{Db};
 ghost use Rattle.pt_flat.specs.Sound.{IsSound};
-ghost use Rattle.pt_engine.specs.Answers.{after_one, answer_to};
-ghost use Rattle.pt_engine.specs.Saying.{AnswersOne, AnswersPart, AnswersSome, AnswersFirst};
+ghost use Rattle.pt_engine.specs.Answers.{after_one, answer_to, IsReply};
+ghost use Rattle.pt_engine.specs.Kept.{HoldsIn};
+ghost use Rattle.pt_engine.specs.Session.{IsOpen, IsSession};
+ghost use Rattle.pt_engine.specs.Saying.{AnswersOne, AnswersFirst, StopsOne, StopsFirst, StopsFor};
 
 use crate::Ending;
 use crate::reader::read;
+use crate::session::Session;
 use pt_flat::{Bin, Db, Reply, Stmt, step, syntax_reply};
 use pt_host::Host;
 use std::alloc::{AllocError, Global};
 
-/// Answers statements in their order, up to the first answer that can't be said.
+/// Answers statements in their order, up to the first that can't be kept or said.
 pub(crate) fn answer_all<H: Host>(
     alloc: Global,
     host: &mut H,
-    db: &mut Db,
+    session: &mut Session,
     statements: &[Bin],
 ) -> Result<(), Ending>
-    requires { IsSound db.old }
-    ensures ok { OnOk result (AnswersFirst H.tells db.old statements.now (length statements.now) db.new (H.world host.old) (H.world host.new)) }
-    ensures err { OnErr result (H.tells → AnswersSome db.old statements.now (H.world host.old) (H.world host.new)) }
-    ensures whole { result ≡ Err Ending.NoMemory → (count : ℕ) × (db_after : Db) × AnswersFirst H.tells db.old statements.now count db_after (H.world host.old) (H.world host.new) }
-    ensures causes { IfErr result (λ ending. (ending ≡ Ending.NoMemory) ⊎ ((ending ≡ Ending.OutputFault) × Rose (H.out_faults host.old) (H.out_faults host.new))) }
-    ensures later { H.out_faults host.old ≤ H.out_faults host.new }
-    ensures disk { H.disk_faults host.new ≡ H.disk_faults host.old }
+    requires open { IsOpen session.old }
+    requires stands { H.tells → IsSession session.old (H.world host.old) }
+    ensures ok { OnOk result (AnswersFirst H.tells session.old.db statements.now (length statements.now) session.new (H.world host.old) (H.world host.new)) }
+    ensures err { IfErr result (λ ending. H.tells → StopsFirst ending session.old.db statements.now (H.world host.old) (H.world host.new)) }
+    ensures causes { IfErr result (λ ending. StopsFor ending (H.disk_faults host.old) (H.disk_faults host.new) (H.out_faults host.old) (H.out_faults host.new)) }
+    ensures disk { H.disk_faults host.old ≤ H.disk_faults host.new }
+    ensures output { H.out_faults host.old ≤ H.out_faults host.new }
     ensures input { H.in_faults host.new ≡ H.in_faults host.old }
-    ensures sound { IsSound db.new }
 {
     for (i, piece) in statements.iter().enumerate() {
-        answer_one(alloc, host, db, i as u64 + 1, piece.items())?;
+        answer_one(alloc, host, session, i as u64 + 1, piece.items())?;
     }
     Ok(())
 }
 
-/// Answers one statement, which has this number: it is read, executed and its answer said.
+/// Answers one statement, which has this number: it is read, executed and kept, and then its answer is said.
 fn answer_one<H: Host>(
     alloc: Global,
     host: &mut H,
-    db: &mut Db,
+    session: &mut Session,
     number: u64,
     piece: &[u8],
 ) -> Result<(), Ending>
-    requires { IsSound db.old }
-    ensures ok { OnOk result (AnswersOne H.tells db.old number piece.now db.new (H.world host.old) (H.world host.new)) }
-    ensures err { OnErr result (AnswersPart H.tells db.old number piece.now (H.world host.old) (H.world host.new)) }
-    ensures memory { result ≡ Err Ending.NoMemory → H.tells → H.world host.new ≡ H.world host.old }
-    ensures causes { IfErr result (λ ending. (ending ≡ Ending.NoMemory) ⊎ ((ending ≡ Ending.OutputFault) × Rose (H.out_faults host.old) (H.out_faults host.new))) }
-    ensures later { H.out_faults host.old ≤ H.out_faults host.new }
-    ensures kept { OnOk result (H.out_faults host.new ≡ H.out_faults host.old) }
-    ensures disk { H.disk_faults host.new ≡ H.disk_faults host.old }
+    requires open { IsOpen session.old }
+    requires stands { H.tells → IsSession session.old (H.world host.old) }
+    ensures ok { OnOk result (AnswersOne H.tells number piece.now session.old session.new (H.world host.old) (H.world host.new)) }
+    ensures open { OnOk result (IsOpen session.new) }
+    ensures err { IfErr result (λ ending. H.tells → StopsOne ending number piece.now session.old.db (H.world host.old) (H.world host.new)) }
+    ensures causes { IfErr result (λ ending. StopsFor ending (H.disk_faults host.old) (H.disk_faults host.new) (H.out_faults host.old) (H.out_faults host.new)) }
+    ensures disk { H.disk_faults host.old ≤ H.disk_faults host.new }
+    ensures output { H.out_faults host.old ≤ H.out_faults host.new }
+    ensures kept { OnOk result ((H.disk_faults host.new ≡ H.disk_faults host.old) × (H.out_faults host.new ≡ H.out_faults host.old)) }
     ensures input { H.in_faults host.new ≡ H.in_faults host.old }
-    ensures sound { IsSound db.new }
 {
     let reading = read(piece);
-    let reply = reply_for(alloc, db, number, &reading)?;
+    let reply = execute(alloc, host, session, number, &reading)?;
     match host.say(reply.bytes()) {
         Ok(()) => Ok(()),
         Err(_) => Err(Ending::OutputFault),
+    }
+}
+
+/// Executes one statement and keeps the database that it leaves.
+fn execute<H: Host>(
+    alloc: Global,
+    host: &mut H,
+    session: &mut Session,
+    number: u64,
+    reading: &Option<Stmt>,
+) -> Result<Reply, Ending>
+    requires open { IsOpen session.old }
+    requires stands { H.tells → IsSession session.old (H.world host.old) }
+    ensures reply { IfOk result (λ reply. reply.text ≡ answer_to session.old.db number reading.now) }
+    ensures after { OnOk result ((session.new.db ≡ after_one session.old.db reading.now) × IsOpen session.new) }
+    ensures stands { OnOk result (H.tells → IsSession session.new (H.world host.new)) }
+    ensures moments { H.tells → IsQuiet (H.world host.old) (H.world host.new) (λ directory. HoldsIn directory session.old.db ⊎ HoldsIn directory (after_one session.old.db reading.now)) }
+    ensures memory { result ≡ Err Ending.NoMemory → H.tells → H.world host.new ≡ H.world host.old }
+    ensures causes { IfErr result (λ ending. ((ending ≡ Ending.NoMemory) × (H.disk_faults host.new ≡ H.disk_faults host.old)) ⊎ ((ending ≡ Ending.DiskFault) × (H.disk_faults host.old ≤ H.disk_faults host.new) × Rose (H.disk_faults host.old) (H.disk_faults host.new))) }
+    ensures kept { OnOk result (H.disk_faults host.new ≡ H.disk_faults host.old) }
+    ensures others { (H.in_faults host.new ≡ H.in_faults host.old) × (H.out_faults host.new ≡ H.out_faults host.old) }
+{
+    let reply = reply_for(alloc, &mut session.db, number, reading)?;
+    if !changes(reading, &reply) {
+        return Ok(reply);
+    }
+    session.keep(alloc, host)?;
+    Ok(reply)
+}
+
+/// Whether a statement that was answered so has changed the database.
+fn changes(reading: &Option<Stmt>, reply: &Reply) -> bool
+    ensures { result ≡ false → (db : Db) (number : ℕ) → IsReply db number reading.now reply.now → after_one db reading.now ≡ db }
+{
+    match reading {
+        Some(Stmt::Create { .. } | Stmt::Insert { .. }) => reply.code() == 0,
+        Some(Stmt::Select { .. }) | None => false,
     }
 }
 
@@ -69,7 +110,7 @@ fn reply_for(
     reading: &Option<Stmt>,
 ) -> Result<Reply, AllocError>
     requires { IsSound db.old }
-    ensures reply { IfOk result (λ reply. reply.text ≡ answer_to db.old number reading.now) }
+    ensures reply { IfOk result (IsReply db.old number reading.now) }
     ensures after { OnOk result (db.new ≡ after_one db.old reading.now) }
     ensures err { OnErr result (db.new ≡ db.old) }
     ensures sound { IsSound db.new }

@@ -1,9 +1,10 @@
 ghost use Rattle.std.specs.Prelude.{◌≡◌, ◌+◌, ◌≤◌, ◌++◌, length, take, drop};
 ghost use Rattle.pt_engine.specs.declared.ending.Ending.TheVariants.{NoMemory};
-ghost use Rattle.pt_engine.specs.Endings.{code_of, damaged_line, line_of};
+ghost use Rattle.pt_engine.specs.Endings.{code_of, damaged_line, ending_of, line_of};
 
 use itoa::Buffer;
 use pt_host::Name;
+use pt_store::Stop;
 use std::alloc::AllocError;
 
 /// How a run ends.
@@ -32,6 +33,18 @@ impl From<AllocError> for Ending {
 
     fn from(_: AllocError) -> Self {
         Ending::NoMemory
+    }
+}
+
+impl From<Stop> for Ending {
+    ghost from_gives = { λ stop ending. ending ≡ ending_of stop };
+
+    fn from(stop: Stop) -> Self {
+        match stop {
+            Stop::NoMemory => Ending::NoMemory,
+            Stop::Fault => Ending::DiskFault,
+            Stop::Bad { name, place } => Ending::Damaged { name, place },
+        }
     }
 }
 

@@ -1,23 +1,25 @@
-ghost use Rattle.std.specs.Prelude.{◌≡◌, ◌⊎◌, ◌≢◌, ◌↔◌, Some, None, map};
+ghost use Rattle.std.specs.Prelude.{◌≡◌, ◌⊎◌, ◌≢◌, ◌↔◌, Some, None, IsSome, map};
 ghost use Rattle.std.specs.Option.{option_copied};
 ghost use Rattle.std.specs.String.{string_bytes};
-ghost use Rattle.pt_host.specs.Disk.{IsAtRest};
-ghost use Rattle.pt_flat.specs.Sound.{IsSound};
+ghost use Rattle.pt_host.specs.Disk.{IsAtRest, shown};
+ghost use Rattle.pt_flat.specs.declared.data.Db.{Db};
 ghost use Rattle.pt_engine.specs.Causes.{counts_of, NeverFall, IsCaused, NoneRose};
-ghost use Rattle.pt_engine.specs.Script.{has_excess};
-ghost use Rattle.pt_engine.specs.Saying.{empty_db, AnswersSome, AnswersAt};
-ghost use Rattle.pt_engine.specs.Run.{EndsTaken, dir_of, StandsAt, PrintsInOrder, IsComplete};
+ghost use Rattle.pt_engine.specs.Script.{has_excess, statements};
+ghost use Rattle.pt_engine.specs.Kept.{HoldsIn, KeepsInOrder};
+ghost use Rattle.pt_engine.specs.Session.{IsOpen, IsSession};
+ghost use Rattle.pt_engine.specs.Saying.{EntersNothing};
+ghost use Rattle.pt_engine.specs.Run.{dir_of, EndsTaken, IsComplete, StandsAt, StandsTaken, TellsDamage};
 
 use crate::Ending;
 use crate::answers::answer_all;
 use crate::input::{Taken, take_script};
-use pt_flat::Db;
+use crate::session::Session;
 use pt_host::Host;
 use std::alloc::Global;
 
 /// All that the program does. `words` are those of the command line after the program's name: `run DIR` is the one form.
-/// The directory DIR is entered, the input is taken to its end or to the first byte that passes a limit, and its
-/// statements are answered one by one.
+/// The directory DIR is entered and its database opened, the input is taken to its end or to the first byte that passes a
+/// limit, and its statements are executed one by one: each is kept in the directory before its answer is said.
 pub fn run<H: Host>(alloc: Global, words: &Vec<String>, host: &mut H) -> Ending
     requires new { H.tells → (H.world host.old).dir ≡ None }
     requires at_rest { H.tells → IsAtRest (H.world host.old).now.fs }
@@ -29,12 +31,18 @@ pub fn run<H: Host>(alloc: Global, words: &Vec<String>, host: &mut H) -> Ending
     // The causes of the other endings.
     ensures counts { NeverFall (counts_of H.disk_faults H.in_faults H.out_faults host.old) (counts_of H.disk_faults H.in_faults H.out_faults host.new) }
     ensures causes { IsCaused (counts_of H.disk_faults H.in_faults H.out_faults host.old) (counts_of H.disk_faults H.in_faults H.out_faults host.new) result }
-    ensures complete { result ≢ Ending.Usage → H.tells → NoneRose (counts_of H.disk_faults H.in_faults H.out_faults host.old) (counts_of H.disk_faults H.in_faults H.out_faults host.new) → IsComplete (has_excess (H.world host.old).input) result }
+    ensures damage { result ≢ Ending.Usage → H.tells → TellsDamage result (HoldsIn (shown (H.world host.old).now.fs)) (H.world host.old) (H.world host.new) }
+    ensures complete { (db : Db) → result ≢ Ending.Usage → H.tells → HoldsIn (shown (H.world host.old).now.fs) db → NoneRose (counts_of H.disk_faults H.in_faults H.out_faults host.old) (counts_of H.disk_faults H.in_faults H.out_faults host.new) → IsComplete (has_excess (H.world host.old).input) result }
 
-    // What is entered, what is printed at each moment, and what stands at the end.
+    // The directory that is entered.
     ensures dir { H.tells → ((H.world host.new).dir ≡ None) ⊎ ((H.world host.new).dir ≡ dir_of (map string_bytes words.now.items)) }
-    ensures in_order { H.tells → PrintsInOrder (H.world host.old) (H.world host.new) }
-    ensures stands { H.tells → StandsAt result (H.world host.old) (H.world host.new) }
+
+    // Run on a directory that holds a database: at any moment, every image that a stop may leave holds the database after the
+    // first k statements, where the answers to k - 1 of them are printed whole and nothing is printed past the k-th's.
+    ensures headline { (db : Db) → H.tells → HoldsIn (shown (H.world host.old).now.fs) db → KeepsInOrder db (statements (H.world host.old).input) (H.world host.old) (H.world host.new) }
+
+    // What is printed and held at each ending.
+    ensures stands { (db : Db) → H.tells → HoldsIn (shown (H.world host.old).now.fs) db → StandsAt db result (H.world host.old) (H.world host.new) }
 {
     match dir_of(words) {
         None => Ending::Usage,
@@ -45,32 +53,60 @@ pub fn run<H: Host>(alloc: Global, words: &Vec<String>, host: &mut H) -> Ending
 /// Runs the input over this directory.
 fn run_in<H: Host>(alloc: Global, dir: &str, host: &mut H) -> Ending
     requires new { H.tells → (H.world host.old).dir ≡ None }
+    requires at_rest { H.tells → IsAtRest (H.world host.old).now.fs }
     ensures formed { result ≢ Ending.Usage }
     ensures counts { NeverFall (counts_of H.disk_faults H.in_faults H.out_faults host.old) (counts_of H.disk_faults H.in_faults H.out_faults host.new) }
     ensures causes { IsCaused (counts_of H.disk_faults H.in_faults H.out_faults host.old) (counts_of H.disk_faults H.in_faults H.out_faults host.new) result }
+    ensures damage { H.tells → TellsDamage result (HoldsIn (shown (H.world host.old).now.fs)) (H.world host.old) (H.world host.new) }
     ensures dir { H.tells → ((H.world host.new).dir ≡ None) ⊎ ((H.world host.new).dir ≡ Some dir.now) }
-    ensures in_order { H.tells → PrintsInOrder (H.world host.old) (H.world host.new) }
-    ensures stands { H.tells → StandsAt result (H.world host.old) (H.world host.new) }
+    ensures headline { (db : Db) → H.tells → HoldsIn (shown (H.world host.old).now.fs) db → KeepsInOrder db (statements (H.world host.old).input) (H.world host.old) (H.world host.new) }
+    ensures stands { (db : Db) → H.tells → HoldsIn (shown (H.world host.old).now.fs) db → StandsAt db result (H.world host.old) (H.world host.new) }
 {
     match host.enter(dir) {
         Err(_) => Ending::DiskFault,
-        Ok(()) => match take_script(alloc, host) {
-            Err(ending) => ending,
-            Ok(taken) => answer_taken(alloc, host, &taken),
-        },
+        Ok(()) => run_entered(alloc, host),
+    }
+}
+
+/// Runs the input over the directory that was entered.
+fn run_entered<H: Host>(alloc: Global, host: &mut H) -> Ending
+    requires entered { H.tells → IsSome (H.world host.old).dir }
+    requires at_rest { H.tells → IsAtRest (H.world host.old).now.fs }
+    ensures formed { result ≢ Ending.Usage }
+    ensures counts { NeverFall (counts_of H.disk_faults H.in_faults H.out_faults host.old) (counts_of H.disk_faults H.in_faults H.out_faults host.new) }
+    ensures causes { IsCaused (counts_of H.disk_faults H.in_faults H.out_faults host.old) (counts_of H.disk_faults H.in_faults H.out_faults host.new) result }
+    ensures damage { H.tells → TellsDamage result (HoldsIn (shown (H.world host.old).now.fs)) (H.world host.old) (H.world host.new) }
+    ensures dir { H.tells → (H.world host.new).dir ≡ (H.world host.old).dir }
+    ensures headline { (db : Db) → H.tells → HoldsIn (shown (H.world host.old).now.fs) db → KeepsInOrder db (statements (H.world host.old).input) (H.world host.old) (H.world host.new) }
+    ensures stands { (db : Db) → H.tells → HoldsIn (shown (H.world host.old).now.fs) db → StandsAt db result (H.world host.old) (H.world host.new) }
+{
+    let mut session = match Session::begin(alloc, host) {
+        Ok(session) => session,
+        Err(ending) => return ending,
+    };
+    match take_script(alloc, host) {
+        Err(ending) => ending,
+        Ok(taken) => answer_taken(alloc, host, &mut session, &taken),
     }
 }
 
 /// Answers what was taken of the input.
-fn answer_taken<H: Host>(alloc: Global, host: &mut H, taken: &Taken) -> Ending
+fn answer_taken<H: Host>(
+    alloc: Global,
+    host: &mut H,
+    session: &mut Session,
+    taken: &Taken,
+) -> Ending
+    requires open { IsOpen session.old }
+    requires stands { H.tells → IsSession session.old (H.world host.old) }
     ensures counts { NeverFall (counts_of H.disk_faults H.in_faults H.out_faults host.old) (counts_of H.disk_faults H.in_faults H.out_faults host.new) }
     ensures causes { IsCaused (counts_of H.disk_faults H.in_faults H.out_faults host.old) (counts_of H.disk_faults H.in_faults H.out_faults host.new) result }
     ensures ending { EndsTaken result taken.now.too_long }
-    ensures some { H.tells → AnswersSome empty_db taken.now.statements (H.world host.old) (H.world host.new) }
-    ensures whole { H.tells → AnswersAt result taken.now.statements (H.world host.old) (H.world host.new) }
+    ensures only { H.tells → EntersNothing (H.world host.old) (H.world host.new) }
+    ensures in_order { H.tells → KeepsInOrder session.old.db taken.now.statements (H.world host.old) (H.world host.new) }
+    ensures stands { H.tells → StandsTaken result session.old.db taken.now.statements (H.world host.old).now.said (H.world host.new) }
 {
-    let mut db = Db::empty(alloc);
-    match answer_all(alloc, host, &mut db, taken.statements.items()) {
+    match answer_all(alloc, host, session, taken.statements.items()) {
         Err(ending) => ending,
         Ok(()) if taken.too_long => Ending::TooLong,
         Ok(()) => Ending::Done,

@@ -1,4 +1,4 @@
-ghost use Rattle.std.specs.Prelude.{◌≡◌, ℕ, false, List as Listed, length, map, Some, IfOk, OnOk, IsSome, IsTrue, Contains, slice_get};
+ghost use Rattle.std.specs.Prelude.{◌≡◌, ℕ, false, List as Listed, length, map, Some, IfOk, OnOk, IsSome, IsTrue, Contains, slice_get, ⊤};
 ghost use Rattle.std.specs.Option.{option_map};
 ghost use Rattle.pt_host.specs.Disk.{EachImage, IsAtRest, shown};
 ghost use Rattle.pt_host.specs.Listed.{AreRising, by_name};
@@ -38,6 +38,8 @@ impl Store {
         ensures stands { IfOk result (λ store. H.tells → (files : Listed (Listed ℕ × Listed ℕ)) × EachImage (H.world host.old).now.fs (IsLeft files) × IsStore store files (H.world host.new)) }
         // At every moment, whatever is answered, the directory stands for that map.
         ensures left { H.tells → (files : Listed (Listed ℕ × Listed ℕ)) → EachImage (H.world host.old).now.fs (IsLeft files) → IsQuiet (H.world host.old) (H.world host.new) (IsLeft files) }
+        // At every moment, also where the directory stands for no map, nothing is entered, taken or said.
+        ensures quiet { H.tells → IsQuiet (H.world host.old) (H.world host.new) (λ directory. ⊤) }
         ensures bad { IfBad result (λ name place. (name ≡ whole_name) × (place ≡ 0) × (H.tells → (files : Listed (Listed ℕ × Listed ℕ)) → Left (shown (H.world host.old).now.fs) files → ⊥)) }
         ensures live { IfOk result (λ store. IsTrue (is_live store)) }
         ensures serials { IfOk result (λ store. IsSome (length_in (sizes store) serials_name)) }

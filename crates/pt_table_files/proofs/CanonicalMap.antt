@@ -214,7 +214,7 @@ apart_counter : (tables : List Table) → AllByRecursion (IsApart counter_name) 
 apart_counter [] = tt
 apart_counter (table ∷ tables) = (record { definition = definition_not_counter table.name; rows = rows_not_counter table.name }, apart_counter tables)
 
-counter_in_map : (db : Db) → by_name (map_of db) counter_name ≡ Some (le64 db.next)
+pub counter_in_map : (db : Db) → by_name (map_of db) counter_name ≡ Some (le64 db.next)
 counter_in_map db =
     kept db.tables ((counter_name, le64 db.next) ∷ []) counter_name (apart_counter db.tables)
     ∙ ap (λ t. cond t (Some (le64 db.next)) None) ((bytes_eq-Decides counter_name counter_name).1 refl)

@@ -1,13 +1,13 @@
 -- Files looked up by their names.
 use Rattle.std.proofs.Common.{◌≡◌, ℕ, zero, suc, ◌<◌, Bool, true, false, cond, List, [], ◌∷◌, length, get_or, map, Some, All, refl, sym, ap, ◌∙◌, subst, arith, Less}
-use Rattle.std.specs.Prelude.{IsSome}
+use Rattle.std.specs.Prelude.{IsSome, Contains}
 use Rattle.std.specs.Option.{option_map}
 use Rattle.std.specs.Str.{bytes_eq}
 use Rattle.std.specs.List.{find, AllByRecursion}
 use Rattle.std.specs.Ordering.{nat_cmp, is_eq}
 use Rattle.std.specs.Cmp.Lexicographic.{slice_cmp}
 use Rattle.std.proofs.lemmas.Slice.Eq.{bytes_eq-Decides}
-use Rattle.std.proofs.lemmas.List.Elements.{All-from_recursion, recursion_from_All}
+use Rattle.std.proofs.lemmas.List.Elements.{All-contains_itself, All-from_recursion, recursion_from_All}
 use Rattle.std.proofs.lemmas.List.{get_or-map, length-map}
 use Rattle.std.proofs.lemmas.Map.Keys.{sorted_head, sorted_tail}
 use Rattle.std.proofs.lemmas.Map.Text.{is_eq-slice_cmp}
@@ -55,3 +55,11 @@ by_name_at (file ∷ files) (suc k) d rising below =
     let less : slice_cmp nat_cmp file.0 (get_or files k d).0 ≡ Less = subst (λ n. slice_cmp nat_cmp file.0 n ≡ Less) (get_or-map (λ (f : List ℕ × List ℕ). f.0) files k d d.0 (omega arith)) (later k d.0 (omega (arith, length-map files (λ (f : List ℕ × List ℕ). f.0)))) in
     let apart : bytes_eq file.0 (get_or files k d).0 ≡ false = sym (is_eq-slice_cmp file.0 (get_or files k d).0) ∙ ap is_eq less in
     rw apart (by_name_at files k d (sorted_tail (slice_cmp nat_cmp) file.0 (map (λ f. f.0) files) rising) (omega arith))
+
+-- a name that is there is one of the names
+pub contains_present : (files : List (List ℕ × List ℕ)) (name : List ℕ) → IsSome (by_name files name) → Contains (map (λ f. f.0) files) name
+contains_present files name there =
+    let all = map (λ (f : List ℕ × List ℕ). f.0) files in
+    all_present (Contains all) files
+    (λ k d within. subst (Contains all) (get_or-map (λ (f : List ℕ × List ℕ). f.0) files k d d.0 within) (All-contains_itself all k d.0 (omega (arith, length-map files (λ (f : List ℕ × List ℕ). f.0)))))
+    name there

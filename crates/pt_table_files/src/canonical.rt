@@ -1,8 +1,9 @@
-ghost use Rattle.std.specs.Prelude.{◌≡◌, IfOk, OnOk};
+ghost use Rattle.std.specs.Prelude.{◌≡◌, IfOk, OnOk, Contains, map};
 ghost use Rattle.pt_host.specs.Listed.{AreRising};
 ghost use Rattle.pt_flat.specs.Sound.{IsSound};
 ghost use Rattle.pt_table_files.specs.Holds.{Holds};
 ghost use Rattle.pt_table_files.specs.Canonical.{map_of, with_file, with_table};
+ghost use Rattle.pt_table_files.specs.FileNames.{counter_name};
 
 use crate::counter::counter_bytes;
 use crate::definition::definition_of;
@@ -20,6 +21,7 @@ pub fn files_of(alloc: Global, db: &Db) -> Result<Files, AllocError>
     requires { IsSound db.now }
     ensures value { IfOk result (λ files. files ≡ map_of db.now) }
     ensures rising { IfOk result (λ files. AreRising files) }
+    ensures counter { IfOk result (λ files. Contains (map (λ file. file.0) files) counter_name) }
     ensures holds { IfOk result (λ files. Holds files db.now) }
 {
     let mut files = BTreeMap::new(alloc);

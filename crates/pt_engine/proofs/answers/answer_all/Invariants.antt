@@ -1,12 +1,12 @@
 use Rattle.std.proofs.Common.{◌≡◌}
-use Rattle.pt_flat.specs.Sound.{IsSound}
+use Rattle.pt_engine.specs.Session.{IsOpen}
 use Rattle.pt_engine.specs.Saying.{AnswersFirst}
 use Rattle.pt_engine.proofs.answers.answer_all.Given as goal
 
 abbrev pub invariant-loop-i : goal.invariant-loop-i
 invariant-loop-i g l = record {
-  answered : AnswersFirst g.H.Host.tells l.initial.db l.statements l.i l.db (g.H.Host.world l.initial.host) (g.H.Host.world l.host);
-  sound : IsSound l.db;
+  answered : AnswersFirst g.H.Host.tells l.initial.session.db l.statements l.i l.session (g.H.Host.world l.initial.host) (g.H.Host.world l.host);
+  open_still : IsOpen l.session;
   disk : g.H.Host.disk_faults l.host ≡ g.H.Host.disk_faults l.initial.host;
   input : g.H.Host.in_faults l.host ≡ g.H.Host.in_faults l.initial.host;
   output : g.H.Host.out_faults l.host ≡ g.H.Host.out_faults l.initial.host;

@@ -1,6 +1,5 @@
-use Rattle.std.proofs.Common.{refl}
-use Rattle.pt_engine.proofs.SayingLemmas.{prints_none}
+use Rattle.pt_engine.proofs.RunLemmas.{complete}
 use Rattle.pt_engine.proofs.program.run.Goals as goal
 
-pub returns-in-None-clause-in_order : goal.returns-in-None-clause-in_order
-returns-in-None-clause-in_order g c tells = prints_none _ _ refl refl
+pub returns-in-Some-clause-complete : goal.returns-in-Some-clause-complete
+returns-in-Some-clause-complete g c db formed tells held none = complete c.run_in.result db _ _ _ _ formed c.run_in.ensures.causes none (c.run_in.ensures.stands db tells held)

@@ -1,14 +1,19 @@
-use Rattle.std.proofs.Common.{ap, ◌∙◌}
-use Rattle.pt_engine.proofs.SayingLemmas.{prints_none}
+use Rattle.std.proofs.Common.{ap, sym, subst}
+use Rattle.pt_host.specs.Disk.{Fs, EachImage}
+use Rattle.pt_engine.specs.Kept.{HoldsIn}
+use Rattle.pt_engine.specs.Script.{statements}
+use Rattle.pt_engine.proofs.RunLemmas.{rest_holds, keeping_none, entered_in_order}
 use Rattle.pt_engine.proofs.program.run_in.Goals as goal
 
-pub returns-in-Err-clause-in_order : goal.returns-in-Err-clause-in_order
-returns-in-Err-clause-in_order g c tells =
+pub returns-in-Err-clause-stands : goal.returns-in-Err-clause-stands
+returns-in-Err-clause-stands g c db tells held =
     let same = c.in-Err.ensures.failed tells in
-    prints_none _ _ (ap (λ w. w.now) same) (ap (λ w. w.moments) same)
+    let now = g.H.Host.world c.args.host.now in (
+      0,
+      keeping_none db (statements now.input) now.now.said _ (ap (λ w. w.now.said) same)
+          (subst (λ (fs : Fs). EachImage fs (λ files. HoldsIn files db)) (sym (ap (λ w. w.now.fs) same)) (rest_holds now.now.fs db (c.requires.at_rest tells) held)),
+    )
 
-pub returns-in-Err-take_script-clause-in_order : goal.returns-in-Err-take_script-clause-in_order
-returns-in-Err-take_script-clause-in_order g c tells =
-    let entered = c.in-Ok.ensures.ok tells in
-    let taken = c.in-Err-take_script.ensures.err tells in
-    prints_none _ _ (ap (λ w. w.now) taken ∙ ap (λ w. w.now) entered) (ap (λ w. w.moments) taken ∙ ap (λ w. w.moments) entered)
+pub returns-in-Ok-clause-headline : goal.returns-in-Ok-clause-headline
+returns-in-Ok-clause-headline g c db tells held =
+    entered_in_order db c.args.dir.now (g.H.Host.world c.args.host.now) _ _ (c.in-Ok.ensures.ok tells) (c.run_entered.ensures.headline db tells) held

@@ -1,0 +1,45 @@
+-- A session: the store of a directory, and the database that it holds.
+use Rattle.std.specs.Prelude.{◌≡◌, ◌⊎◌, ℕ, ◌≤◌, List, ◌++◌, IsTrue}
+use Rattle.pt_host.specs.Disk.{Files, shown}
+use Rattle.pt_host.specs.World.{World, Rose}
+use Rattle.pt_store.specs.Left.{whole_name}
+use Rattle.pt_store.specs.Store.{is_live, IsStore}
+use Rattle.pt_flat.specs.declared.data.Db.{Db}
+use Rattle.pt_flat.specs.Sound.{IsSound}
+use Rattle.pt_table_files.specs.Holds.{Holds}
+use Rattle.pt_engine.specs.declared.session.Session.{Session}
+use Rattle.pt_engine.specs.declared.ending.Ending.{Ending}
+use Rattle.pt_engine.specs.declared.ending.Ending.TheVariants.{DiskFault, NoMemory, Damaged}
+use Rattle.pt_engine.specs.Kept.{HoldsIn}
+
+-- what holds of each session that hasn't failed
+pub record IsOpen (session : Session) : Type 0 where
+  pub live : IsTrue (is_live session.store)
+  pub sound : IsSound session.db
+
+-- The session stands for its database over this host: each image holds it.
+pub record IsSession (session : Session) (w : World) : Type 0 where
+  pub map : List (List ℕ × List ℕ)
+  pub store : IsStore session.store map w
+  pub holds : Holds map session.db
+
+-- A session was opened: it stands for the database that the directory held.
+pub record IsOpened (old new : World) (session : Session) : Type 0 where
+  pub held : HoldsIn (shown old.now.fs) session.db
+  pub stands : IsSession session new
+
+-- Why a session isn't opened. Damage is told only where the directory held no database.
+abbrev pub StopsOpening : Ending → ℕ → ℕ → Type 0
+StopsOpening NoMemory before now = now ≡ before
+StopsOpening DiskFault before now = (before ≤ now) × Rose before now
+StopsOpening (Damaged name place) before now = now ≡ before
+StopsOpening _ before now = ⊥
+
+abbrev pub IsDamage : Ending → (Db → Type 0) → Type 0
+IsDamage (Damaged name place) Held = (name ≡ whole_name) × (place ≡ 0) × ((db : Db) → Held db → ⊥)
+IsDamage _ Held = Unit {0}
+
+-- Within one statement: the database before it with nothing of its answer said, or the one after it with a part of it said.
+abbrev pub IsWithin : Db → Db → List ℕ → List ℕ → List ℕ → Files → Type 0
+IsWithin db db_after before text said files =
+    (HoldsIn files db × (said ≡ before)) ⊎ (HoldsIn files db_after × ((front rest : List ℕ) × (text ≡ front ++ rest) × (said ≡ before ++ front)))

@@ -1,0 +1,139 @@
+//! The session: the store of the directory that was entered, and the database that it holds.
+ghost use Rattle.std.specs.Prelude.{◌≡◌, ◌⊎◌, ◌≤◌, ◌<◌, ℕ, List as Listed, length, IfOk, IfErr, IfSome, IfNone, OnOk, Err, Some, IsSome, IsTrue, slice_get, ⊤};
+ghost use Rattle.pt_host.specs.Disk.{IsAtRest, EachImage, shown};
+ghost use Rattle.pt_host.specs.Listed.{AreRising};
+ghost use Rattle.pt_host.specs.World.{IsQuiet, Rose};
+ghost use Rattle.pt_store.specs.Left.{IsLeft, whole_name};
+ghost use Rattle.pt_store.specs.Store.{is_live, IsStore, IsStanding, sizes};
+ghost use Rattle.pt_store.specs.Stops.{Counts, IfBad};
+ghost use Rattle.pt_flat.specs.declared.data.Db.{Db};
+ghost use Rattle.pt_table_files.specs.Holds.{Holds};
+
+use crate::Ending;
+use pt_flat::Db;
+use pt_host::{Files, Host, Image, Name};
+use pt_plain::List;
+use pt_store::{Stop, Store};
+use pt_table_files::{db_of, files_of};
+use std::alloc::{AllocError, Global};
+
+/// A directory that was opened: its store, and the database that it holds.
+#[derive(Drop)]
+pub(crate) struct Session {
+    pub(crate) store: Store,
+    pub(crate) db: Db,
+}
+
+impl Session {
+    ghost use Rattle.pt_engine.specs.Kept.{HoldsIn};
+    ghost use Rattle.pt_engine.specs.Session.{IsOpen, IsSession, IsOpened, IsDamage, StopsOpening};
+
+    /// Opens the directory that was entered.
+    pub(crate) fn begin<H: Host>(alloc: Global, host: &mut H) -> Result<Session, Ending>
+        requires entered { H.tells → IsSome (H.world host.old).dir }
+        requires at_rest { H.tells → IsAtRest (H.world host.old).now.fs }
+        ensures open { IfOk result (λ session. IsOpen session) }
+        ensures opened { IfOk result (λ session. H.tells → IsOpened (H.world host.old) (H.world host.new) session) }
+        ensures left { H.tells → (files : Listed (Listed ℕ × Listed ℕ)) → EachImage (H.world host.old).now.fs (IsLeft files) → IsQuiet (H.world host.old) (H.world host.new) (IsLeft files) }
+        ensures quiet { H.tells → IsQuiet (H.world host.old) (H.world host.new) (λ directory. ⊤) }
+        ensures damage { IfErr result (λ ending. H.tells → IsDamage ending (HoldsIn (shown (H.world host.old).now.fs))) }
+        ensures stops { IfErr result (λ ending. StopsOpening ending (H.disk_faults host.old) (H.disk_faults host.new)) }
+        ensures kept { OnOk result (H.disk_faults host.new ≡ H.disk_faults host.old) }
+        ensures input { H.in_faults host.new ≡ H.in_faults host.old }
+        ensures output { H.out_faults host.new ≡ H.out_faults host.old }
+    {
+        let store = Store::attach(alloc, host)?;
+        let files = read_all(alloc, &store, host)?;
+        match database_of(alloc, files)? {
+            None => Err(damaged()),
+            Some(db) => Ok(Session { store, db }),
+        }
+    }
+
+    /// Keeps the database in the directory, in the place of the one that it held.
+    pub(crate) fn keep<H: Host>(&mut self, alloc: Global, host: &mut H) -> Result<(), Ending>
+        requires open { IsOpen self.old }
+        requires stands { H.tells → IsStanding self.old.store (H.world host.old) }
+        ensures open { OnOk result (IsOpen self.new) }
+        ensures db { self.new.db ≡ self.old.db }
+        ensures stands { OnOk result (H.tells → IsSession self.new (H.world host.new)) }
+        ensures left { H.tells → (files : Listed (Listed ℕ × Listed ℕ)) → IsStore self.old.store files (H.world host.old) → IsQuiet (H.world host.old) (H.world host.new) (λ directory. IsLeft files directory ⊎ HoldsIn directory self.old.db) }
+        ensures memory { result ≡ Err Ending.NoMemory → H.tells → H.world host.new ≡ H.world host.old }
+        ensures causes { IfErr result (λ ending. ((ending ≡ Ending.NoMemory) × (H.disk_faults host.new ≡ H.disk_faults host.old)) ⊎ ((ending ≡ Ending.DiskFault) × (H.disk_faults host.old ≤ H.disk_faults host.new) × Rose (H.disk_faults host.old) (H.disk_faults host.new))) }
+        ensures kept { OnOk result (H.disk_faults host.new ≡ H.disk_faults host.old) }
+        ensures input { H.in_faults host.new ≡ H.in_faults host.old }
+        ensures output { H.out_faults host.new ≡ H.out_faults host.old }
+    {
+        let files = files_of(alloc, &self.db)?;
+        match self.store.replace(alloc, host, &files) {
+            Ok(()) => Ok(()),
+            Err(Stop::NoMemory) => Err(Ending::NoMemory),
+            Err(Stop::Fault) => Err(Ending::DiskFault),
+            Err(Stop::Bad { .. }) => unreachable!(),
+        }
+    }
+}
+
+/// All files of the store's map.
+fn read_all<H: Host>(alloc: Global, store: &Store, host: &mut H) -> Result<Files, Stop>
+    requires live { IsTrue (is_live store.now) }
+    requires stands { H.tells → IsStanding store.now (H.world host.old) }
+    ensures read { IfOk result (λ all. H.tells → (files : Listed (Listed ℕ × Listed ℕ)) → IsStore store.now files (H.world host.old) → all ≡ files) }
+    ensures stands { H.tells → (files : Listed (Listed ℕ × Listed ℕ)) → IsStore store.now files (H.world host.old) → IsStore store.now files (H.world host.new) }
+    ensures left { H.tells → (files : Listed (Listed ℕ × Listed ℕ)) → IsStore store.now files (H.world host.old) → IsQuiet (H.world host.old) (H.world host.new) (IsLeft files) }
+    ensures bad { IfBad result (λ name place. (name ≡ whole_name) × (place ≡ 0) × (H.tells → ⊥)) }
+    ensures disk { Counts (H.disk_faults host.old) (H.disk_faults host.new) result }
+    ensures input { H.in_faults host.new ≡ H.in_faults host.old }
+    ensures output { H.out_faults host.new ≡ H.out_faults host.old }
+{
+    let mut files = List::new(alloc);
+    for i in 0..store.count() {
+        let file = read_file(alloc, store, host, i)?;
+        files.push(file)?;
+    }
+    Ok(files)
+}
+
+/// The i-th file of the store's map.
+fn read_file<H: Host>(
+    alloc: Global,
+    store: &Store,
+    host: &mut H,
+    i: usize,
+) -> Result<(Name, List<u8>), Stop>
+    requires live { IsTrue (is_live store.now) }
+    requires within { i < length (sizes store.now) }
+    requires stands { H.tells → IsStanding store.now (H.world host.old) }
+    ensures read { IfOk result (λ file. H.tells → (files : Listed (Listed ℕ × Listed ℕ)) → IsStore store.now files (H.world host.old) → slice_get files i ≡ Some file) }
+    ensures stands { H.tells → (files : Listed (Listed ℕ × Listed ℕ)) → IsStore store.now files (H.world host.old) → IsStore store.now files (H.world host.new) }
+    ensures left { H.tells → (files : Listed (Listed ℕ × Listed ℕ)) → IsStore store.now files (H.world host.old) → IsQuiet (H.world host.old) (H.world host.new) (IsLeft files) }
+    ensures bad { IfBad result (λ name place. (name ≡ whole_name) × (place ≡ 0) × (H.tells → ⊥)) }
+    ensures disk { Counts (H.disk_faults host.old) (H.disk_faults host.new) result }
+    ensures input { H.in_faults host.new ≡ H.in_faults host.old }
+    ensures output { H.out_faults host.new ≡ H.out_faults host.old }
+{
+    let name = store.name_at(i).unwrap();
+    let bytes = store.read(alloc, host, &name)?;
+    Ok((name, List::of(bytes)))
+}
+
+/// The database that files hold. `None` exactly where they hold none.
+fn database_of(alloc: Global, files: Files) -> Result<Option<Db>, AllocError>
+    ensures some { IfOk result (λ found. IfSome found (λ db. Holds files db)) }
+    ensures none { IfOk result (λ found. AreRising files → IfNone found ((db : Db) → Holds files db → ⊥)) }
+{
+    match Image::of(files) {
+        None => Ok(None),
+        Some(image) => db_of(alloc, &image.files),
+    }
+}
+
+/// The ending where the directory holds no database.
+fn damaged() -> Ending
+    ensures { result ≡ Ending.Damaged whole_name 0 }
+{
+    match Name::of(b"whole.map") {
+        Some(name) => Ending::Damaged { name, place: 0 },
+        None => unreachable!(),
+    }
+}
