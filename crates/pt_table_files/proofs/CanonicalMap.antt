@@ -30,7 +30,7 @@ use Rattle.pt_table_files.specs.Holds.{HasTable, HasNoStray, HoldsBy, names}
 use Rattle.pt_table_files.specs.Canonical.{with_file, with_table, with_tables, map_of}
 use Rattle.pt_table_files.proofs.NameTexts.{definition_name_one, rows_name_one, definition_not_rows, definition_not_counter, rows_not_counter, leaf_not_rows}
 use Rattle.pt_table_files.proofs.Collected.{named_table}
-use Rattle.pt_table_files.proofs.CanonicalRows.{IsPut, canonical_rows}
+use Rattle.pt_table_files.proofs.CanonicalRows.{CanPut, canonical_rows}
 
 abbrev Map : Type 0
 Map = List (List ℕ × List ℕ)
@@ -222,7 +222,7 @@ counter_in_map db =
 written_rows : (next : ℕ) (table : Table) → next ≤ 2 ^ 62 → IsSoundTable next table → SpellsRows (rows_text table.rows) table.rows
 written_rows next table most sound =
     canonical_rows table.rows
-    (recursion_from_All IsPut table.rows (λ k d within. (
+    (recursion_from_All CanPut table.rows (λ k d within. (
       over (λ serial. 0 < serial) sound.least k d within,
       (let below : (get_or table.rows k d).0 < next = over (λ serial. serial < next) sound.below k d within in omega arith),
       sound.values k d within,

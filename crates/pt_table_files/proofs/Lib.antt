@@ -1,6 +1,7 @@
 pub mod OptionCases
 pub mod NumberBytes
 pub mod CounterLemmas
+pub mod CellTexts
 pub mod RecordTexts
 pub mod DefinitionTexts
 pub mod Reading

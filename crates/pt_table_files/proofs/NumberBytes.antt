@@ -1,13 +1,17 @@
 -- Numbers as bytes: read back, and told apart.
 use Rattle.std.proofs.Common.{◌≡◌, ℕ, ◌<◌, ◌^◌, ℤ, pos, negsuc, false, List, [], ◌∷◌, ◌++◌, length, take, drop, get_or, inl, inr, refl, sym, ap, ◌∙◌, subst, arith, IsTrue, length-append}
-use Rattle.std.specs.Int.{w32, w64, to_le_bytes, from_le_bytes, cast_unsigned, cast_signed}
+use Rattle.std.specs.Int.{w16, w32, w64, to_le_bytes, from_le_bytes, cast_unsigned, cast_signed}
 use Rattle.std.specs.Int.RustNames.{FitsSigned}
-use Rattle.std.proofs.lemmas.Nat.{le_bytes_8, from_le_bytes-to_le_bytes_8}
+use Rattle.std.proofs.lemmas.Nat.{le_bytes_2, le_bytes_4, le_bytes_8, from_le_bytes-to_le_bytes_2, from_le_bytes-to_le_bytes_4, from_le_bytes-to_le_bytes_8}
 use Rattle.std.proofs.lemmas.Bool.{ltb-true, lt-ltb, true≢false, cases_lt}
 use Rattle.std.proofs.lemmas.List.{take_at, drop_at, get_or_append_left, get_or_past}
 use Rattle.std.proofs.lemmas.Int.{to_z-of_z, of_z-to_z}
 use Rattle.pt_flat.specs.Step.{is_int}
-use Rattle.pt_table_files.specs.Numbers.{le32, le64, le_signed}
+use Rattle.pt_table_files.specs.Numbers.{le16, le32, le64, le_signed}
+
+pub length-le16 : (n : ℕ) → length (le16 n) ≡ 2
+unfolding le16
+length-le16 n = refl
 
 pub length-le32 : (n : ℕ) → length (le32 n) ≡ 4
 unfolding le32
@@ -37,6 +41,14 @@ same_parts a b x y len e = (
 )
 
 -- # What was written is read back, and no other number is written so.
+
+pub le16_one : (m n : ℕ) → m < 2 ^ 16 → n < 2 ^ 16 → le16 m ≡ le16 n → m ≡ n
+unfolding le16
+le16_one m n mfits nfits e = sym (from_le_bytes-to_le_bytes_2 m mfits) ∙ ap (from_le_bytes w16) e ∙ from_le_bytes-to_le_bytes_2 n nfits
+
+pub le32_one : (m n : ℕ) → m < 2 ^ 32 → n < 2 ^ 32 → le32 m ≡ le32 n → m ≡ n
+unfolding le32
+le32_one m n mfits nfits e = sym (from_le_bytes-to_le_bytes_4 m mfits) ∙ ap (from_le_bytes w32) e ∙ from_le_bytes-to_le_bytes_4 n nfits
 
 pub le64_again : (n : ℕ) → n < 2 ^ 64 → from_le_bytes w64 (le64 n) ≡ n
 unfolding le64
@@ -89,9 +101,24 @@ pub le64_front : (bytes front rest : List ℕ) (n : ℕ) → length front ≡ 8 
 unfolding le64
 le64_front bytes front rest n len fits e parts = parts ∙ ap (λ xs. xs ++ rest) (sym (le_bytes_8 front n len (front_bytes bytes front rest parts fits) e))
 
+-- four bytes in front, and two
+pub le32_front : (bytes front rest : List ℕ) (n : ℕ) → length front ≡ 4 → ((i : ℕ) → get_or bytes i 0 < 256) → n ≡ from_le_bytes w32 front → bytes ≡ front ++ rest → bytes ≡ le32 n ++ rest
+unfolding le32
+le32_front bytes front rest n len fits e parts = parts ∙ ap (λ xs. xs ++ rest) (sym (le_bytes_4 front n len (front_bytes bytes front rest parts fits) e))
+
+pub le16_front : (bytes front rest : List ℕ) (n : ℕ) → length front ≡ 2 → ((i : ℕ) → get_or bytes i 0 < 256) → n ≡ from_le_bytes w16 front → bytes ≡ front ++ rest → bytes ≡ le16 n ++ rest
+unfolding le16
+le16_front bytes front rest n len fits e parts = parts ∙ ap (λ xs. xs ++ rest) (sym (le_bytes_2 front n len (front_bytes bytes front rest parts fits) e))
+
 -- fewer than eight bytes begin with no number
 pub short64 : (bytes rest : List ℕ) (n : ℕ) → length bytes < 8 → bytes ≡ le64 n ++ rest → ⊥
 short64 bytes rest n short e = omega (arith, ap length e, length-append (le64 n) rest, length-le64 n)
+
+pub short32 : (bytes rest : List ℕ) (n : ℕ) → length bytes < 4 → bytes ≡ le32 n ++ rest → ⊥
+short32 bytes rest n short e = omega (arith, ap length e, length-append (le32 n) rest, length-le32 n)
+
+pub short16 : (bytes rest : List ℕ) (n : ℕ) → length bytes < 2 → bytes ≡ le16 n ++ rest → ⊥
+short16 bytes rest n short e = omega (arith, ap length e, length-append (le16 n) rest, length-le16 n)
 
 pub short_signed : (bytes rest : List ℕ) (z : ℤ) → length bytes < 8 → bytes ≡ le_signed z ++ rest → ⊥
 short_signed bytes rest z short e = omega (arith, ap length e, length-append (le_signed z) rest, length-le_signed z)

@@ -11,17 +11,16 @@ use Rattle.pt_host.specs.Disk.{Files}
 use Rattle.pt_flat.specs.declared.data.Table.{Table}
 use Rattle.pt_flat.specs.declared.data.Db.{Db}
 use Rattle.pt_flat.specs.Word.{IsWord}
-use Rattle.pt_table_files.specs.declared.record.Record.{Record}
 use Rattle.pt_table_files.specs.Numbers.{le64}
 use Rattle.pt_table_files.specs.Definition.{definition}
-use Rattle.pt_table_files.specs.Records.{records_text, IsRecord, after, left, Spells, SpellsRows}
+use Rattle.pt_table_files.specs.Records.{after, with_values, Spells, SpellsRows}
 use Rattle.pt_table_files.specs.Counter.{SpellsCounter}
 use Rattle.pt_table_files.specs.FileNames.{definition_name, rows_name}
 use Rattle.pt_table_files.specs.Holds.{HasTable, HasTables, HoldsBy, names}
 use Rattle.pt_table_files.proofs.NumberBytes.{length-le64, le64_one, same_parts}
 use Rattle.pt_table_files.proofs.NameTexts.{same_ends}
 use Rattle.pt_table_files.proofs.DefinitionTexts.{head, end, one_column, definition_is}
-use Rattle.pt_table_files.proofs.Reading.{spells_rest, spells_end, first_step}
+use Rattle.pt_table_files.proofs.Reading.{Read, Parts, AreTexts, text_of, left_by, spells_rest, spells_end, first_step}
 use Rattle.pt_table_files.proofs.TableLemmas.{defined_so, rows_so}
 use Rattle.pt_table_files.proofs.Collected.{named_table}
 use Rattle.pt_table_files.proofs.Sorted.{same_sorted}
@@ -44,18 +43,31 @@ counter_one bytes m n a b =
       ]
     ]
 
-rows_of_records : (old a b : List (ℕ × ℤ)) (bytes : List ℕ) (entries : List Record) → AllByRecursion IsRecord entries → bytes ≡ records_text entries → left entries old ≡ Some a → Spells old bytes b → a ≡ b
+rows_of_records : (old a b : Read) (bytes : List ℕ) (parts : Parts) → AreTexts parts → bytes ≡ text_of parts → left_by parts old ≡ Some a → Spells old bytes b → a ≡ b
 rows_of_records old a b bytes [] each text leaves spells =
     let is : old ≡ a = (let e : Some old ≡ Some a = leaves in cc) in
     sym (spells_end old b bytes (ap length text) spells ∙ is)
-rows_of_records old a b bytes (entry ∷ entries) each text leaves spells =
-    let step = first_step old a entries entry (after entry old) refl leaves in
-    rows_of_records step.0 a b (records_text entries) entries each.1 refl step.2
-    (spells_rest old step.0 b bytes (records_text entries) entry text each.0 step.1 spells)
+rows_of_records old a b bytes (one ∷ parts) each text leaves spells =
+    let step = first_step old a parts one.0 (after one.0 old) one.1 refl leaves in
+    rows_of_records step.0 a b (text_of parts) parts each.1 refl step.2
+    (spells_rest old step.0 b bytes (text_of parts) one.0 (record { front = one.1; is = each.0; parts = text }) step.1 spells)
+
+-- rows are told by their values
+pub with_values_one : (a b : List (ℕ × ℤ)) → with_values a ≡ with_values b → a ≡ b
+with_values_one [] [] e = refl
+with_values_one [] (y ∷ ys) e = cc
+with_values_one (x ∷ xs) [] e = cc
+with_values_one (x ∷ xs) (y ∷ ys) e =
+    let rows : with_values xs ≡ with_values ys = cc in
+    let head : (x.0, Some x.1) ≡ (y.0, Some y.1) = cc in
+    let serial : x.0 ≡ y.0 = ap (λ (p : ℕ × Option ℤ). p.0) head in
+    let value : Some x.1 ≡ Some y.1 = ap (λ (p : ℕ × Option ℤ). p.1) head in
+    let same : x.1 ≡ y.1 = cc in
+    ap₂ (λ (r : ℕ × ℤ) (rs : List (ℕ × ℤ)). r ∷ rs) (ap₂ (λ (n : ℕ) (v : ℤ). (n, v)) serial same) (with_values_one xs ys rows)
 
 -- Bytes spell at most one list of rows.
 pub rows_one : (bytes : List ℕ) (a b : List (ℕ × ℤ)) → SpellsRows bytes a → SpellsRows bytes b → a ≡ b
-rows_one bytes a b x y = rows_of_records [] a b bytes x.records x.each x.text x.leaves y
+rows_one bytes a b x y = with_values_one a b (rows_of_records [] (with_values a) (with_values b) bytes x.records x.each x.text x.leaves y)
 
 second : {a b : ℕ} {x y : List ℕ} → a ∷ x ≡ b ∷ y → (a ≡ b) × (x ≡ y)
 second e = (cc, cc)

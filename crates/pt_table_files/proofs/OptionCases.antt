@@ -1,6 +1,6 @@
 -- A clause by cases on an option, as one clause for each case.
 use Rattle.std.proofs.Common.{◌≡◌, Bool, true, false, not, IsTrue, refl}
-use Rattle.std.specs.Prelude.{Option, Some, None, IfSome, IfNone, MatchOption}
+use Rattle.std.specs.Prelude.{Option, Some, None, Result, Ok, Err, IfOk, IfSome, IfNone, MatchOption}
 
 pub if_some : {X : Type 0} (o : Option X) (P : Type 0) (Q : X → Type 0) → MatchOption o P Q → IfSome o Q
 if_some None P Q h = tt
@@ -18,6 +18,10 @@ if_some_then (Some x) P Q then h = then x h
 pub if_none_then : {X : Type 0} (o : Option X) (P Q : Type 0) → (P → Q) → IfNone o P → IfNone o Q
 if_none_then None P Q then h = then h
 if_none_then (Some x) P Q then h = tt
+
+pub if_ok_none_then : {X E : Type 0} (r : Result (Option X) E) (P Q : Type 0) → (P → Q) → IfOk r (λ o. IfNone o P) → IfOk r (λ o. IfNone o Q)
+if_ok_none_then (Ok o) P Q then h = if_none_then o P Q then h
+if_ok_none_then (Err e) P Q then h = tt
 
 -- # Tests
 

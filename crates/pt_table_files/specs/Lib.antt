@@ -1,5 +1,6 @@
 pub mod Numbers
 pub mod Definition
+pub mod Cells
 pub mod Records
 pub mod Counter
 pub mod FileNames

@@ -1,6 +1,6 @@
 ghost use Rattle.std.specs.Prelude.{◌≡◌, ◌<◌, ◌++◌, ℤ, List, ℕ, false, length, IsTrue, IfSome, IfNone};
 ghost use Rattle.pt_flat.specs.Step.{is_int};
-ghost use Rattle.pt_table_files.specs.Numbers.{le64, le_signed};
+ghost use Rattle.pt_table_files.specs.Numbers.{le16, le32, le64, le_signed};
 
 /// What follows these bytes. `None` exactly where the others don't begin with them.
 pub(crate) fn behind<'a>(bytes: &'a [u8], front: &[u8]) -> Option<&'a [u8]>
@@ -8,6 +8,26 @@ pub(crate) fn behind<'a>(bytes: &'a [u8], front: &[u8]) -> Option<&'a [u8]>
     ensures none { IfNone result ((rest : List ℕ) → bytes.now ≡ front.now ++ rest → ⊥) }
 {
     bytes.strip_prefix(front)
+}
+
+/// The number in front, and the bytes behind it. `None` exactly where there are fewer than two bytes.
+pub(crate) fn u16_at(bytes: &[u8]) -> Option<(u16, &[u8])>
+    ensures some { IfSome result (λ x. bytes.now ≡ le16 x.0 ++ x.1.now) }
+    ensures none { IfNone result (length bytes.now < 2) }
+{
+    let (front, rest) = bytes.split_at_checked(2)?;
+    let number = u16::from_le_bytes([front[0], front[1]]);
+    Some((number, rest))
+}
+
+/// The number in front, and the bytes behind it. `None` exactly where there are fewer than four bytes.
+pub(crate) fn u32_at(bytes: &[u8]) -> Option<(u32, &[u8])>
+    ensures some { IfSome result (λ x. bytes.now ≡ le32 x.0 ++ x.1.now) }
+    ensures none { IfNone result (length bytes.now < 4) }
+{
+    let (front, rest) = bytes.split_at_checked(4)?;
+    let number = u32::from_le_bytes([front[0], front[1], front[2], front[3]]);
+    Some((number, rest))
 }
 
 /// The number in front, and the bytes behind it. `None` exactly where there are fewer than eight bytes.

@@ -7,8 +7,9 @@
 //!   length and the bytes of its name, 1 for INT, 0 for nullable, 0 for no default), a u32 number of keys, here 0, and 0 for
 //!   no partitioning. `definition` of `specs/Definition.antt` says it.
 //! - `T.rows`: records one after the other, each a u32 length of its body and the body: 1, a u64 serial, a u32 number of
-//!   cells, here 1, 1 and an i64 put a row, 2 and a u64 serial delete one. The rows are what is left, by rising serial.
-//!   `SpellsRows` of `specs/Records.antt` says it.
+//!   cells and the cells put a row, 2 and a u64 serial delete one. A cell is 0 for NULL, 1 and an i64, 2 and an i32 day, or 3,
+//!   a u16 length and bytes. The rows are what is left, by rising serial, each of one cell, an INT. A row that is deleted may
+//!   have any cells. `SpellsRows` of `specs/Records.antt` says it, with `SpellsCells` of `specs/Cells.antt`.
 //! - `serials.cnt`: u64 numbers, the last of which is the next serial, or nothing for 1. `SpellsCounter` of
 //!   `specs/Counter.antt` says it.
 //!
@@ -24,6 +25,7 @@
 
 mod bytes;
 mod canonical;
+mod cells;
 mod counter;
 mod database;
 mod definition;

@@ -1,7 +1,8 @@
 use Rattle.std.proofs.Common.{◌≡◌, ◌++◌, ◌∙◌, rules}
 use Rattle.std.proofs.lemmas.Int.{to_z-of_z}
 use Rattle.pt_table_files.specs.Numbers.{le64, le_signed}
-use Rattle.pt_table_files.proofs.RecordTexts.{put_front, cell_front, put_parts}
+use Rattle.pt_table_files.proofs.RecordTexts.{put_front, put_parts}
+use Rattle.pt_table_files.proofs.CellTexts.{cell_front}
 use Rattle.pt_table_files.proofs.record.put_record.Goals as goal
 
 pub returns : goal.returns

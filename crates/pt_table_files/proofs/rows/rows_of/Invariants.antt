@@ -1,11 +1,12 @@
-use Rattle.std.proofs.Common.{ℕ, ℤ, List, [], length}
+use Rattle.std.proofs.Common.{[], length}
 use Rattle.pt_table_files.specs.Records.{Spells}
+use Rattle.pt_table_files.proofs.Reading.{Read}
 use Rattle.pt_table_files.proofs.rows.rows_of.Given as goal
 
 abbrev pub invariant-loop-rest : goal.invariant-loop-rest
 invariant-loop-rest l = record {
-  only : (new : List (ℕ × ℤ)) → Spells l.rows.entries l.rest new → Spells [] l.bytes new;
-  all : (new : List (ℕ × ℤ)) → Spells [] l.bytes new → Spells l.rows.entries l.rest new;
+  only : (new : Read) → Spells l.rows.entries l.rest new → Spells [] l.bytes new;
+  all : (new : Read) → Spells [] l.bytes new → Spells l.rows.entries l.rest new;
 }
 
 abbrev pub decreases-loop-rest : goal.decreases-loop-rest
