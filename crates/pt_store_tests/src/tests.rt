@@ -1,5 +1,4 @@
-ghost use Rattle.std.specs.Prelude.{◌≡◌, map, IfOk, OnOk, IsSome, IsTrue, Contains};
-ghost use Rattle.pt_host.specs.Disk.{IsAtRest};
+ghost use Rattle.std.specs.Prelude.{◌≡◌, map, IfOk, OnOk, IsTrue, Contains};
 ghost use Rattle.pt_host.specs.Listed.{AreRising};
 ghost use Rattle.pt_memhost.specs.Memory.{world_in};
 ghost use Rattle.pt_store.specs.Left.{serials_name};
@@ -9,6 +8,7 @@ mod damage;
 mod faults;
 mod replacing;
 
+use crate::{attached, map_in};
 use pt_host::{Files, Host, Image, Name};
 use pt_memhost::MemHost;
 use pt_plain::List;
@@ -46,48 +46,12 @@ fn directory(alloc: Global, table: Table<'_>) -> Result<Image, Fail> {
     Ok(Image::of(files).ok_or("names in disorder")?)
 }
 
-/// Whether there is a `serials.cnt`.
-fn has_serials(files: &Files) -> bool
-    ensures { IsTrue result → Contains (map (λ file. file.0) files.now) serials_name }
-{
-    for i in 0..files.items().len() {
-        if files.items()[i].0.bytes() == b"serials.cnt".as_slice() {
-            return true;
-        }
-    }
-    false
-}
-
 /// The map of these files.
 fn map_of(alloc: Global, table: Table<'_>) -> Result<Files, Fail>
     ensures rising { IfOk result (λ files. AreRising files) }
     ensures serials { IfOk result (λ files. Contains (map (λ file. file.0) files) serials_name) }
 {
-    let Image { files } = directory(alloc, table)?;
-    if !has_serials(&files) {
-        return Err(Fail::new("no serials.cnt"));
-    }
-    Ok(files)
-}
-
-/// A host that entered this directory.
-fn entered(alloc: Global, image: &Image) -> Result<MemHost, Fail>
-    ensures entered { IfOk result (λ host. IsSome (world_in host).dir) }
-    ensures rests { IfOk result (λ host. IsAtRest (world_in host).now.fs) }
-{
-    let mut host = MemHost::from_image(alloc, image, b"")?;
-    host.enter("d")?;
-    Ok(host)
-}
-
-/// The store of this directory, and the host that entered it.
-fn attached(alloc: Global, image: &Image) -> Result<(Store, MemHost), Fail>
-    ensures stands { IfOk result (λ r. IsStanding r.0 (world_in r.1)) }
-    ensures live { IfOk result (λ r. IsTrue (is_live r.0)) }
-{
-    let mut host = entered(alloc, image)?;
-    let store = Store::attach(alloc, &mut host)?;
-    Ok((store, host))
+    Ok(map_in(directory(alloc, table)?).ok_or("no serials.cnt")?)
 }
 
 /// The bytes of the file of this name, which are as many as the store says.

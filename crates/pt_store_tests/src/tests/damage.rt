@@ -3,8 +3,7 @@ use super::*;
 
 /// Which file is bad, and from which place on, where `whole.map` has these bytes.
 fn damage(alloc: Global, bytes: &[u8]) -> Result<Option<(Name, u64)>, Fail> {
-    let mut host = entered(alloc, &directory(alloc, &[("whole.map", bytes)])?)?;
-    match &Store::attach(alloc, &mut host) {
+    match &attached(alloc, &directory(alloc, &[("whole.map", bytes)])?) {
         Ok(_) => Ok(None),
         Err(Stop::Bad { name, place }) => Ok(Some((*name, *place))),
         Err(_) => Err(Fail::new("another stop")),
