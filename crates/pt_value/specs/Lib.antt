@@ -4,3 +4,4 @@ pub mod Truth
 pub mod Value
 pub mod Fits
 pub mod Cell
+pub mod Calendar

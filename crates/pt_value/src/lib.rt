@@ -11,10 +11,12 @@
 //! It stands on `pt_plain`, and for the calendar on `jiff`.
 #![tactic(auto)]
 
+mod days;
 mod ident;
 mod truth;
 mod value;
 
+pub use days::{day_of_month, day_of_week, day_of_year, month, quarter, to_days, weekday, year};
 pub use ident::{Ident, NameFault};
 pub use truth::Truth;
 pub use value::{Bin, Cell, Kind, Value};
