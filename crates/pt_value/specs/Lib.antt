@@ -5,3 +5,5 @@ pub mod Value
 pub mod Fits
 pub mod Cell
 pub mod Calendar
+pub mod Text
+pub mod Written

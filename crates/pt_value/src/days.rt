@@ -71,7 +71,7 @@ pub fn to_days(day: i32) -> i32
 }
 
 /// The date of a day.
-fn date_of(day: i32) -> Date
+pub(crate) fn date_of(day: i32) -> Date
     requires { FitsDate day }
     ensures ymd { IsYmd (pos (date_of day).year) (pos (date_of day).month) (pos (date_of day).day) result }
     ensures place { ordinal result ≡ day_of_year (date_of day) }

@@ -13,8 +13,10 @@
 
 mod days;
 mod ident;
+mod text;
 mod truth;
 mod value;
+mod written;
 
 pub use days::{day_of_month, day_of_week, day_of_year, month, quarter, to_days, weekday, year};
 pub use ident::{Ident, NameFault};
