@@ -2,6 +2,7 @@
 use Rattle.std.proofs.Common.{◌≡◌, ℕ, zero, suc, ◌+◌, ◌-◌, ◌<◌, ◌≤◌, nat_lt, refl, ap, subst, ◌∙◌, arith, ℤ, pos, neg_ℤ, ◌+ℤ◌, ◌-ℤ◌, ◌≤ℤ◌, unsigned_abs, inl, inr}
 use Rattle.std.proofs.lemmas.Bool.{cases_order, cond_both, ltb-true, ltb-false}
 use Rattle.std.proofs.lemmas.Int.{ints}
+use Rattle.pt_value.specs.Fits.{FitsDate}
 use Rattle.pt_value.specs.Calendar.{days_in_month, Date, IsDate, days_of_months, days_of_years, days_before, day_number, next_date, date_after, date_of}
 
 pub days_of_months-suc : (y n : ℕ) → days_of_months y (suc n) ≡ days_of_months y n + days_in_month y (suc n)
@@ -173,3 +174,53 @@ day_of_date d h =
 pub epoch : day_number (date 1970 1 1) ≡ pos 0
 unfolding days_of_months days_of_years
 epoch = refl
+
+-- 365,243 days come before the year 1000
+days_of_years-1000 : days_of_years 1000 ≡ 365_243
+unfolding days_of_months days_of_years
+days_of_years-1000 = refl
+
+days_of_years-10000 : days_of_years 10000 ≡ 3_652_425
+unfolding days_of_months days_of_years
+days_of_years-10000 = refl
+
+-- The dates of the years 1000 to 9999 are those of the days that fit DATE.
+pub record IsLate (d : Date) : Type 0 where
+  pub is : IsDate d
+  pub first : 1000 ≤ d.year
+  pub last : d.year < 10000
+
+count_from : (y m d : ℕ) → IsDate (date y m d) → 1000 ≤ y → 365_243 ≤ days_before (date y m d)
+count_from y m d h first = omega (arith, days_of_years-mono 1000 y first, days_of_years-1000)
+
+count_to : (y m d : ℕ) → IsDate (date y m d) → y < 10000 → days_before (date y m d) < 3_652_425
+count_to y m d h last = omega (arith, days_before-year y m d h, days_of_years-mono (suc y) 10000 (omega arith), days_of_years-10000)
+
+year_from : (y m d : ℕ) → IsDate (date y m d) → 365_243 ≤ days_before (date y m d) → 1000 ≤ y
+year_from y m d h first = elim (cases_order y 1000) [
+    inl at ↦ omega arith
+  | inr (inl lt) ↦ absurd (omega (arith, days_before-year y m d h, days_of_years-mono (suc y) 1000 (omega arith), days_of_years-1000))
+  | inr (inr gt) ↦ omega arith ]
+
+year_to : (y m d : ℕ) → IsDate (date y m d) → days_before (date y m d) < 3_652_425 → y < 10000
+year_to y m d h last = elim (cases_order y 10000) [
+    inl at ↦ absurd (omega (arith, ap days_of_years at, days_of_years-10000))
+  | inr (inl lt) ↦ lt
+  | inr (inr gt) ↦ absurd (omega (arith, days_of_years-mono 10000 y (omega arith), days_of_years-10000)) ]
+
+fits : (day a : ℤ) (n : ℕ) → a ≡ pos n → day ≡ a -ℤ pos 719_528 → 365_243 ≤ n → n < 3_652_425 → FitsDate day
+fits day a n at is low high = (omega (arith, ints), omega (arith, ints))
+
+fitting : (day a : ℤ) (n : ℕ) → FitsDate day → a ≡ pos n → a -ℤ pos 719_528 ≡ day → (365_243 ≤ n) × (n < 3_652_425)
+fitting day a n h at is = (omega (arith, ints), omega (arith, ints))
+
+pub fits_date : (d : Date) → IsLate d → FitsDate (day_number d)
+fits_date d h =
+    fits (day_number d) (pos (days_before d)) (days_before d) refl refl (count_from d.year d.month d.day h.is h.first) (count_to d.year d.month d.day h.is h.last)
+
+pub date_of-late : (day : ℤ) → FitsDate day → IsLate (date_of day)
+date_of-late day h =
+    let at = date_of_day day (omega (arith, ints, h.0)) in
+    let range = fitting day (pos (days_before (date_of day))) (days_before (date_of day)) h refl at.1 in
+    let d = date_of day in
+    record { is = at.0; first = year_from d.year d.month d.day at.0 range.0; last = year_to d.year d.month d.day at.0 range.1 }

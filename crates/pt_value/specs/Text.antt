@@ -11,6 +11,12 @@ use Rattle.pt_value.specs.declared.value.Value.TheVariants.{Null, Int, Day, Byte
 abbrev pub two_digits : ℕ → List ℕ
 two_digits n = (48 + n / 10) ∷ (48 + n % 10) ∷ []
 
+-- the two digits of a number
+pub record IsWritten (n tens ones : ℕ) : Type 0 where
+  pub below : n < 100
+  pub tens_is : tens ≡ 48 + n / 10
+  pub ones_is : ones ≡ 48 + n % 10
+
 -- YYYY-MM-DD: the byte 45 is `-`
 abbrev pub date_text : Date → List ℕ
 date_text date =

@@ -1,7 +1,7 @@
-ghost use Rattle.std.specs.Prelude.{◌≡◌, ◌+◌, ◌/◌, ◌%◌, ◌<◌};
-ghost use Rattle.pt_value.specs.Calendar.{date_of};
+ghost use Rattle.std.specs.Prelude.{◌≡◌, ◌+◌, ◌/◌, ◌%◌, ◌<◌, ℕ, IfSome, IfNone};
+ghost use Rattle.pt_value.specs.Calendar.{Date, date_of};
 ghost use Rattle.pt_value.specs.Fits.{FitsDate};
-ghost use Rattle.pt_value.specs.Text.{IsShort, date_text};
+ghost use Rattle.pt_value.specs.Text.{IsShort, IsWritten, date_text};
 
 use crate::days::date_of;
 
@@ -49,6 +49,36 @@ impl Written {
             ones(self.day),
         ]
     }
+
+    /// The date that bytes spell as YYYY-MM-DD. `None` exactly where they aren't of this form.
+    pub fn read(bytes: &[u8]) -> Option<Written>
+        ensures some { IfSome result (λ written. bytes.now ≡ date_text (as_date written)) }
+        ensures none { IfNone result ((d : Date) → IsShort d.year d.month d.day → ¬ (bytes.now ≡ date_text d)) }
+    {
+        let [a, b, c, d, b'-', e, f, b'-', g, h] = bytes else {
+            return None;
+        };
+        let century = number(*a, *b)?;
+        let year = number(*c, *d)?;
+        let month = number(*e, *f)?;
+        let day = number(*g, *h)?;
+        Some(Written {
+            year: century as u16 * 100 + year as u16,
+            month,
+            day,
+        })
+    }
+}
+
+/// The number that two digits spell.
+fn number(tens: u8, ones: u8) -> Option<u8>
+    ensures some { IfSome result (λ n. IsWritten n tens ones) }
+    ensures none { IfNone result ((n : ℕ) → ¬ (IsWritten n tens ones)) }
+{
+    if tens.is_ascii_digit() && ones.is_ascii_digit() {
+        return Some((tens - b'0') * 10 + (ones - b'0'));
+    }
+    None
 }
 
 /// The first of the two digits of a number.
