@@ -1,5 +1,5 @@
 -- The kit's calendar has the same dates.
-use Rattle.std.proofs.Common.{◌≡◌, ℕ, zero, suc, ◌+◌, ◌-◌, ◌%◌, ◌≤◌, refl, sym, ap, subst, ◌∙◌, arith, ℤ, pos, negsuc, neg_ℤ, ◌+ℤ◌, ◌≤ℤ◌, unsigned_abs}
+use Rattle.std.proofs.Common.{◌≡◌, ℕ, zero, suc, ◌+◌, ◌-◌, ◌%◌, ◌<◌, ◌≤◌, ◌-ℤ◌, refl, sym, ap, subst, ◌∙◌, arith, ℤ, pos, negsuc, neg_ℤ, ◌+ℤ◌, ◌≤ℤ◌, unsigned_abs}
 use Rattle.jiff_core.specs.Calendar.{IsCivilDate, days_from_civil, weekday_number, days_of_months as civil_months, day_of_year as civil_day_of_year, day_count}
 use Rattle.std.proofs.lemmas.Int.{ints}
 use Rattle.jiff_core.proofs.SignedLemmas.{signed_arith}
@@ -8,8 +8,10 @@ use Rattle.jiff_core.specs.Date.{epoch_day, ordinal, IsYmd}
 use Rattle.jiff_core.specs.declared.civil.date.Date.{Date as Plain}
 use Rattle.jiff_core.proofs.DateLemmas.{civil}
 use Rattle.jiff_core.proofs.CalendarLemmas.{weekday_number-parts, days_from_civil-day_count, days_of_months_all, day_count-day_of_year, day_count-next_year, day_count-lt_year}
-use Rattle.pt_value.specs.Calendar.{days_in_month, Date, days_of_months, days_of_years, day_of_year, days_before, date_of, days_after_monday, days_after_sunday}
-use Rattle.pt_value.proofs.Dates.{date, date_after-after, one_date}
+use borrow.Author.Differences.{up, down}
+use Rattle.pt_value.specs.Text.{IsDayOf}
+use Rattle.pt_value.specs.Calendar.{days_in_month, Date, days_of_months, days_of_years, day_of_year, days_before, day_number, IsDate, date_of, days_after_monday, days_after_sunday}
+use Rattle.pt_value.proofs.Dates.{date, date_after-after, day_of_date, fits_date, one_date}
 
 pub civil_months-same : (y n : ℕ) → civil_months (pos y) n ≡ days_of_months y n
 unfolding civil_months days_of_months
@@ -69,3 +71,23 @@ weekday_number-monday day = omega (arith, signed_arith)
 
 pub weekday_number-sunday : (day : ℤ) → pos ((weekday_number day + 1) % 7) ≡ days_after_sunday day
 weekday_number-sunday day = omega (arith, signed_arith, weekday_number-parts day)
+
+-- A date that the kit's calendar has, of the years 1000 to 9999, is the date of its day number, which fits DATE.
+number-same : (y m d : ℕ) → 1 ≤ d → days_from_civil (pos y) m d ≡ day_number (date y m d)
+number-same y m d first = to_number (days_from_civil (pos y) m d) (pos (days_before (date y m d))) (day_count (pos y) m d) (days_before (date y m d)) refl (days_from_civil-day_count (pos y) m d) (day_count-same y m d first)
+  where
+    to_number : (z a : ℤ) (k n : ℕ) → a ≡ pos n → up z + 4_371_953 ≡ down z + k → k ≡ 3_652_425 + n → z ≡ a -ℤ pos 719_528
+    to_number z a k n at count same = omega (arith, ints)
+
+pub is_day_of : (y m d : ℕ) → IsCivilDate (pos y) m d → 1000 ≤ y → y < 10000 → IsDayOf (date y m d) (days_from_civil (pos y) m d)
+is_day_of y m d h first last =
+    let is : IsDate (date y m d) = record { month_in = h.1; day_in = h.2 } in
+    subst (IsDayOf (date y m d)) (sym (number-same y m d h.2.0)) (record { fits = fits_date (date y m d) (record { is = is; first = first; last = last }); date_is = day_of_date (date y m d) is })
+
+pub is_day_of_date : (j : Plain) (y m d : ℕ) (day : ℤ) → j.year ≡ pos y → j.month ≡ m → j.day ≡ d → day ≡ epoch_day j → 1000 ≤ y → y < 10000 → IsDayOf (date y m d) day
+is_day_of_date j y m d day year month place number first last =
+    let h : IsCivilDate (pos y) m d =
+    subst (λ z. IsCivilDate (pos y) m z) place (subst (λ z. IsCivilDate (pos y) z j.day) month (subst (λ z. IsCivilDate z j.month j.day) year (civil j))) in
+    let at : days_from_civil (pos y) m d ≡ day =
+    sym (number ∙ ap (λ z. days_from_civil z j.month j.day) year ∙ ap (λ z. days_from_civil (pos y) z j.day) month ∙ ap (λ z. days_from_civil (pos y) m z) place) in
+    subst (IsDayOf (date y m d)) at (is_day_of y m d h first last)

@@ -198,15 +198,17 @@ count_to y m d h last = omega (arith, days_before-year y m d h, days_of_years-mo
 
 year_from : (y m d : ℕ) → IsDate (date y m d) → 365_243 ≤ days_before (date y m d) → 1000 ≤ y
 year_from y m d h first = elim (cases_order y 1000) [
-    inl at ↦ omega arith
+  | inl at ↦ omega arith
   | inr (inl lt) ↦ absurd (omega (arith, days_before-year y m d h, days_of_years-mono (suc y) 1000 (omega arith), days_of_years-1000))
-  | inr (inr gt) ↦ omega arith ]
+  | inr (inr gt) ↦ omega arith
+]
 
 year_to : (y m d : ℕ) → IsDate (date y m d) → days_before (date y m d) < 3_652_425 → y < 10000
 year_to y m d h last = elim (cases_order y 10000) [
-    inl at ↦ absurd (omega (arith, ap days_of_years at, days_of_years-10000))
+  | inl at ↦ absurd (omega (arith, ap days_of_years at, days_of_years-10000))
   | inr (inl lt) ↦ lt
-  | inr (inr gt) ↦ absurd (omega (arith, days_of_years-mono 10000 y (omega arith), days_of_years-10000)) ]
+  | inr (inr gt) ↦ absurd (omega (arith, days_of_years-mono 10000 y (omega arith), days_of_years-10000))
+]
 
 fits : (day a : ℤ) (n : ℕ) → a ≡ pos n → day ≡ a -ℤ pos 719_528 → 365_243 ≤ n → n < 3_652_425 → FitsDate day
 fits day a n at is low high = (omega (arith, ints), omega (arith, ints))

@@ -22,6 +22,11 @@ abbrev pub date_text : Date → List ℕ
 date_text date =
     two_digits (date.year / 100) ++ two_digits (date.year % 100) ++ 45 ∷ [] ++ two_digits date.month ++ 45 ∷ [] ++ two_digits date.day
 
+-- the day of a date, which fits DATE
+pub record IsDayOf (date : Date) (day : ℤ) : Type 0 where
+  pub fits : FitsDate day
+  pub date_is : date_of day ≡ date
+
 -- what these digits can write
 pub record IsShort (year month day : ℕ) : Type 0 where
   pub year_in : year < 10000

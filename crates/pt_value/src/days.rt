@@ -1,8 +1,10 @@
-ghost use Rattle.std.specs.Prelude.{◌≡◌, ◌+◌, ◌%◌, pos, ◌+ℤ◌};
+ghost use Rattle.std.specs.Prelude.{◌≡◌, ◌+◌, ◌%◌, ℤ, pos, ◌+ℤ◌, IfSome, IfNone};
 ghost use Rattle.jiff_core.specs.Date.{IsYmd, epoch_day, ordinal, weekday_of};
 ghost use Rattle.pt_value.specs.Calendar.{date_of, day_of_year, days_after_monday, days_after_sunday, quarter_of};
 ghost use Rattle.pt_value.specs.Fits.{FitsDate};
+ghost use Rattle.pt_value.specs.Text.{SpellsDay};
 
+use crate::written::Written;
 use jiff::civil::Date;
 use jiff_core::civil;
 
@@ -68,6 +70,15 @@ pub fn to_days(day: i32) -> i32
     ensures { result ≡ day +ℤ pos 719_528 }
 {
     day + 719_528
+}
+
+/// The day that bytes spell as YYYY-MM-DD. `None` exactly where they are no date from 1000-01-01 to 9999-12-31 in this form.
+pub fn day_of_text(bytes: &[u8]) -> Option<i32>
+    ensures some { IfSome result (SpellsDay bytes.now) }
+    ensures none { IfNone result ((day : ℤ) → ¬ (SpellsDay bytes.now day)) }
+{
+    let written = Written::read(bytes)?;
+    written.day()
 }
 
 /// The date of a day.

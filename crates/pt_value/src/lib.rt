@@ -18,7 +18,9 @@ mod truth;
 mod value;
 mod written;
 
-pub use days::{day_of_month, day_of_week, day_of_year, month, quarter, to_days, weekday, year};
+pub use days::{
+    day_of_month, day_of_text, day_of_week, day_of_year, month, quarter, to_days, weekday, year,
+};
 pub use ident::{Ident, NameFault};
 pub use truth::Truth;
 pub use value::{Bin, Cell, Kind, Value};

@@ -1,9 +1,10 @@
-ghost use Rattle.std.specs.Prelude.{◌≡◌, ◌+◌, ◌/◌, ◌%◌, ◌<◌, ℕ, IfSome, IfNone};
-ghost use Rattle.pt_value.specs.Calendar.{Date, date_of};
+ghost use Rattle.std.specs.Prelude.{◌≡◌, ◌+◌, ◌/◌, ◌%◌, ◌<◌, ◌≤◌, ℕ, IfSome, IfNone};
+ghost use Rattle.pt_value.specs.Calendar.{Date, IsDate, date_of};
 ghost use Rattle.pt_value.specs.Fits.{FitsDate};
-ghost use Rattle.pt_value.specs.Text.{IsShort, IsWritten, date_text};
+ghost use Rattle.pt_value.specs.Text.{IsDayOf, IsShort, IsWritten, date_text};
 
 use crate::days::date_of;
+use jiff::civil;
 
 /// A date as it is written in digits, whether the calendar has it or not.
 #[derive(Clone, Copy)]
@@ -67,6 +68,20 @@ impl Written {
             month,
             day,
         })
+    }
+
+    /// The day of the date. `None` exactly where the calendar doesn't have it, or before 1000-01-01.
+    pub fn day(self) -> Option<i32>
+        ensures some { IfSome result (IsDayOf (as_date self)) }
+        ensures none { IfNone result (¬ (IsDate (as_date self) × (1000 ≤ self.year))) }
+    {
+        if self.year < 1000 {
+            return None;
+        }
+        match civil::Date::new(self.year as i16, self.month as i8, self.day as i8) {
+            Ok(date) => Some(date.to_plain().to_unix_epoch_day()),
+            Err(_) => None,
+        }
     }
 }
 
