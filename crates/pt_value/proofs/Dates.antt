@@ -226,3 +226,6 @@ date_of-late day h =
     let range = fitting day (pos (days_before (date_of day))) (days_before (date_of day)) h refl at.1 in
     let d = date_of day in
     record { is = at.0; first = year_from d.year d.month d.day at.0 range.0; last = year_to d.year d.month d.day at.0 range.1 }
+
+pub fitting_day : (day : ℤ) → FitsDate day → day_number (date_of day) ≡ day
+fitting_day day h = (date_of_day day (omega (arith, ints, h.0))).1

@@ -1,3 +1,4 @@
 pub mod Dates
 pub mod Civil
 pub mod Reading
+pub mod Order

@@ -1,10 +1,10 @@
 -- Ten bytes that are digits and dashes at the right places are the text of a date.
 use Rattle.std.proofs.Common.{◌≡◌, ℕ, suc, ◌+◌, ◌*◌, ◌/◌, ◌%◌, ◌<◌, List, [], ◌∷◌, length, get_or, drop, ap, ◌∙◌, arith, drop-cons, subst, sym, ℤ, ◌≤◌}
 use Rattle.std.proofs.lemmas.List.{drop_all}
-use Rattle.pt_value.specs.Calendar.{Date, IsDate, date_of}
+use Rattle.pt_value.specs.Calendar.{Date, IsDate, date_of, day_number}
 use Rattle.pt_value.specs.Fits.{FitsDate}
 use Rattle.pt_value.specs.Text.{IsShort, IsWritten, SpellsDay, date_text}
-use Rattle.pt_value.proofs.Dates.{date, date_of-late, days_in_month_bounds}
+use Rattle.pt_value.proofs.Dates.{date, date_of-late, days_in_month_bounds, fitting_day}
 
 from : (xs : List ℕ) (i : ℕ) {rest : List ℕ} → i < length xs → drop (suc i) xs ≡ rest → drop i xs ≡ get_or xs i 0 ∷ rest
 from xs i below more = drop-cons xs i 0 below ∙ ap (λ rest. get_or xs i 0 ∷ rest) more
@@ -63,3 +63,12 @@ no_day bytes d short text none day spelled =
     let w = date_of day in
     let same = date_text-injective w.year w.month w.day d.year d.month d.day late.last short.year_in (sym spelled.text ∙ text) in
     none (subst (λ (d : Date). IsDate d × (1000 ≤ d.year)) same (late.is, late.first))
+
+pub one_day : (bytes : List ℕ) (a b : ℤ) → SpellsDay bytes a → SpellsDay bytes b → a ≡ b
+one_day bytes a b first second =
+    let early = date_of-late a first.fits in
+    let late = date_of-late b second.fits in
+    let x = date_of a in
+    let y = date_of b in
+    let same : x ≡ y = date_text-injective x.year x.month x.day y.year y.month y.day early.last late.last (sym first.text ∙ second.text) in
+    sym (fitting_day a first.fits) ∙ ap day_number same ∙ fitting_day b second.fits

@@ -7,3 +7,4 @@ pub mod Cell
 pub mod Calendar
 pub mod Text
 pub mod Written
+pub mod Laws

@@ -13,6 +13,7 @@
 
 mod days;
 mod ident;
+mod laws;
 mod text;
 mod truth;
 mod value;
@@ -22,5 +23,6 @@ pub use days::{
     day_of_month, day_of_text, day_of_week, day_of_year, month, quarter, to_days, weekday, year,
 };
 pub use ident::{Ident, NameFault};
+pub use laws::{one_date, one_spelling, one_value};
 pub use truth::Truth;
 pub use value::{Bin, Cell, Kind, Value};
