@@ -9,7 +9,7 @@ use Rattle.jiff_core.specs.declared.civil.date.Date.{Date as Plain}
 use Rattle.jiff_core.proofs.DateLemmas.{civil}
 use Rattle.jiff_core.proofs.CalendarLemmas.{weekday_number-parts, days_from_civil-day_count, days_of_months_all, day_count-day_of_year, day_count-next_year, day_count-lt_year}
 use borrow.Author.Differences.{up, down}
-use Rattle.pt_value.specs.Text.{IsDayOf}
+use Rattle.pt_value.specs.Digits.{IsDayOf}
 use Rattle.pt_value.specs.Calendar.{days_in_month, Date, days_of_months, days_of_years, day_of_year, days_before, day_number, IsDate, date_of, days_after_monday, days_after_sunday}
 use Rattle.pt_value.proofs.Dates.{date, date_after-after, day_of_date, fits_date, one_date}
 

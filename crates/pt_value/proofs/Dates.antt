@@ -3,7 +3,7 @@ use Rattle.std.proofs.Common.{◌≡◌, ℕ, zero, suc, ◌+◌, ◌-◌, ◌<�
 use Rattle.std.proofs.lemmas.Bool.{cases_order, cond_both, ltb-true, ltb-false}
 use Rattle.std.proofs.lemmas.Int.{ints}
 use Rattle.pt_value.specs.Fits.{FitsDate}
-use Rattle.pt_value.specs.Calendar.{days_in_month, Date, IsDate, days_of_months, days_of_years, days_before, day_number, next_date, date_after, date_of}
+use Rattle.pt_value.specs.Calendar.{day_of_year, days_in_month, Date, IsDate, days_of_months, days_of_years, days_before, day_number, next_date, date_after, date_of}
 
 pub days_of_months-suc : (y n : ℕ) → days_of_months y (suc n) ≡ days_of_months y n + days_in_month y (suc n)
 unfolding days_of_months
@@ -105,12 +105,16 @@ day_of_year-month y m d h =
     omega (arith, more)
 
 -- and of its year
+pub day_of_year-year : (y m d : ℕ) → IsDate (date y m d) → day_of_year (date y m d) ≤ days_of_months y 12
+day_of_year-year y m d h = omega (arith, day_of_year-month y m d h, days_of_months-mono y m 12 h.month_in.1)
+
 days_before-year : (y m d : ℕ) → IsDate (date y m d) → days_before (date y m d) < days_of_years (suc y)
 days_before-year y m d h =
     let low = h.day_in.0 in
     omega (arith, day_of_year-month y m d h, days_of_months-mono y m 12 h.month_in.1, days_of_years-suc y)
 
-days_before-lt_year : (y m d z n e : ℕ) → IsDate (date y m d) → y < z → days_before (date y m d) < days_before (date z n e)
+-- a date of an earlier year comes before
+pub days_before-lt_year : (y m d z n e : ℕ) → IsDate (date y m d) → y < z → days_before (date y m d) < days_before (date z n e)
 days_before-lt_year y m d z n e h lt = omega (arith, days_before-year y m d h, days_of_years-mono (suc y) z (omega arith))
 
 days_before-lt_month : (y m d n e : ℕ) → IsDate (date y m d) → IsDate (date y n e) → m < n → days_before (date y m d) < days_before (date y n e)

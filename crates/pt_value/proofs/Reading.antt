@@ -1,11 +1,13 @@
--- Ten bytes that are digits and dashes at the right places are the text of a date.
+-- Dates and their texts.
 use Rattle.std.proofs.Common.{◌≡◌, ℕ, suc, ◌+◌, ◌*◌, ◌/◌, ◌%◌, ◌<◌, List, [], ◌∷◌, length, get_or, drop, ap, ◌∙◌, arith, drop-cons, subst, sym, ℤ, ◌≤◌}
 use Rattle.std.proofs.lemmas.List.{drop_all}
 use Rattle.pt_value.specs.Calendar.{Date, IsDate, date_of, day_number}
 use Rattle.pt_value.specs.Fits.{FitsDate}
-use Rattle.pt_value.specs.Text.{IsShort, IsWritten, SpellsDay, date_text}
+use Rattle.pt_value.specs.Digits.{IsShort, IsWritten}
+use Rattle.pt_value.specs.Text.{SpellsDay, date_text}
 use Rattle.pt_value.proofs.Dates.{date, date_of-late, days_in_month_bounds, fitting_day}
 
+-- a list from a place on
 from : (xs : List ℕ) (i : ℕ) {rest : List ℕ} → i < length xs → drop (suc i) xs ≡ rest → drop i xs ≡ get_or xs i 0 ∷ rest
 from xs i below more = drop-cons xs i 0 below ∙ ap (λ rest. get_or xs i 0 ∷ rest) more
 
@@ -15,6 +17,7 @@ ten xs e =
     from xs 0 (omega arith) (from xs 1 (omega arith) (from xs 2 (omega arith) (from xs 3 (omega arith) (from xs 4 (omega arith)
     (from xs 5 (omega arith) (from xs 6 (omega arith) (from xs 7 (omega arith) (from xs 8 (omega arith) (from xs 9 (omega arith) (drop_all 10 xs (omega arith)))))))))))
 
+-- ten bytes that are digits and dashes at the right places are the text of a date
 pub is_date_text : (xs : List ℕ) (c y m d : ℕ) → length xs ≡ 10 → get_or xs 4 0 ≡ 45 → get_or xs 7 0 ≡ 45
     → IsWritten c (get_or xs 0 0) (get_or xs 1 0) → IsWritten y (get_or xs 2 0) (get_or xs 3 0)
     → IsWritten m (get_or xs 5 0) (get_or xs 6 0) → IsWritten d (get_or xs 8 0) (get_or xs 9 0)
@@ -47,6 +50,7 @@ date_text-injective y m d z n e low high same =
     let day : d ≡ e = digits d e d0 d1 in
     ap (λ k. date k m d) year ∙ ap (λ k. date z k d) month ∙ ap (date z n) day
 
+-- its digits can write the date of a day that fits DATE
 pub date_of-short : (day : ℤ) → FitsDate day → IsShort (date_of day).year (date_of day).month (date_of day).day
 date_of-short day h =
     let late = date_of-late day h in
@@ -64,6 +68,7 @@ no_day bytes d short text none day spelled =
     let same = date_text-injective w.year w.month w.day d.year d.month d.day late.last short.year_in (sym spelled.text ∙ text) in
     none (subst (λ (d : Date). IsDate d × (1000 ≤ d.year)) same (late.is, late.first))
 
+-- bytes spell one day at most
 pub one_day : (bytes : List ℕ) (a b : ℤ) → SpellsDay bytes a → SpellsDay bytes b → a ≡ b
 one_day bytes a b first second =
     let early = date_of-late a first.fits in

@@ -57,8 +57,7 @@ unfoldable pub date_after : ℕ → Date
 date_after zero = record { year = 0; month = 1; day = 1 }
 date_after (suc n) = next_date (date_after n)
 
--- the date of a day that isn't before 0000-01-01. It is the one date with this day number: `day_of_date` and `date_of_day` of
--- proofs/Dates.antt
+-- the date of a day that isn't before 0000-01-01. It is the one date with this day number: `OneDate` of Laws.antt
 abbrev pub date_of : ℤ → Date
 date_of day = date_after (unsigned_abs (day +ℤ pos 719_528))
 
@@ -66,10 +65,10 @@ date_of day = date_after (unsigned_abs (day +ℤ pos 719_528))
 abbrev pub quarter_of : ℕ → ℕ
 quarter_of month = (month + 2) / 3
 
--- how many days a day comes after a Monday: 1969-12-29, three days before 1970-01-01, was one
+-- how many days a day comes after the last Monday: 1969-12-29, three days before 1970-01-01, was one
 abbrev pub days_after_monday : ℤ → ℤ
 days_after_monday day = int_rem_euclid (day +ℤ pos 3) (pos 7)
 
--- how many days a day comes after a Sunday: 1969-12-28 was one
+-- the same of Sundays: 1969-12-28 was one
 abbrev pub days_after_sunday : ℤ → ℤ
 days_after_sunday day = int_rem_euclid (day +ℤ pos 4) (pos 7)

@@ -1,5 +1,5 @@
 -- The texts of dates and values. After the manual's topics "Date and Time Literals", "Hexadecimal Literals" and "String Literals".
-use Rattle.std.specs.Prelude.{◌≡◌, ℕ, ◌+◌, ◌/◌, ◌%◌, ◌<◌, Bool, not, ◌&&◌, ◌==◌, nat_le, nat_lt, if◌then◌else◌, ℤ, List, [], ◌∷◌, ◌++◌, codes}
+use Rattle.std.specs.Prelude.{◌≡◌, ℕ, ◌+◌, ◌/◌, ◌%◌, Bool, not, ◌&&◌, ◌==◌, nat_le, nat_lt, if◌then◌else◌, ℤ, List, [], ◌∷◌, ◌++◌, codes}
 use Rattle.std.specs.List.{flat_map, list_all}
 use Rattle.std.specs.Fmt.{signed_decimal}
 use Rattle.pt_value.specs.Calendar.{Date, date_of}
@@ -11,27 +11,10 @@ use Rattle.pt_value.specs.declared.value.Value.TheVariants.{Null, Int, Day, Byte
 abbrev pub two_digits : ℕ → List ℕ
 two_digits n = (48 + n / 10) ∷ (48 + n % 10) ∷ []
 
--- the two digits of a number
-pub record IsWritten (n tens ones : ℕ) : Type 0 where
-  pub below : n < 100
-  pub tens_is : tens ≡ 48 + n / 10
-  pub ones_is : ones ≡ 48 + n % 10
-
 -- YYYY-MM-DD: the byte 45 is `-`
 abbrev pub date_text : Date → List ℕ
 date_text date =
     two_digits (date.year / 100) ++ two_digits (date.year % 100) ++ 45 ∷ [] ++ two_digits date.month ++ 45 ∷ [] ++ two_digits date.day
-
--- the day of a date, which fits DATE
-pub record IsDayOf (date : Date) (day : ℤ) : Type 0 where
-  pub fits : FitsDate day
-  pub date_is : date_of day ≡ date
-
--- what these digits can write
-pub record IsShort (year month day : ℕ) : Type 0 where
-  pub year_in : year < 10000
-  pub month_in : month < 100
-  pub day_in : day < 100
 
 -- bytes spell a day that fits DATE where they are the text of its date
 pub record SpellsDay (bytes : List ℕ) (day : ℤ) : Type 0 where
@@ -60,9 +43,9 @@ shown (Int n) = signed_decimal n
 shown (Day day) = date_text (date_of day)
 shown (Bytes bytes) = bytes_text bytes
 
--- a day among the values fits DATE
-abbrev pub HasDate : Value → Type 0
-HasDate Null = Unit {0}
-HasDate (Int n) = Unit {0}
-HasDate (Day day) = FitsDate day
-HasDate (Bytes bytes) = Unit {0}
+-- a value has a printed text where it is no day that DATE lacks
+abbrev pub CanShow : Value → Type 0
+CanShow Null = Unit {0}
+CanShow (Int n) = Unit {0}
+CanShow (Day day) = FitsDate day
+CanShow (Bytes bytes) = Unit {0}

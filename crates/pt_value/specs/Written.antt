@@ -1,4 +1,4 @@
--- Dates as they are written.
+-- In the shape of the code: what is written is a date, whether the calendar has it or not.
 use Rattle.pt_value.specs.Calendar.{Date}
 use Rattle.pt_value.specs.declared.written.Written.{Written}
 

@@ -1,6 +1,6 @@
 ghost use Rattle.std.specs.Prelude.{◌≡◌, ◌<◌, ◌++◌, ◌∷◌, [], IfOk, codes};
 ghost use Rattle.std.specs.List.{list_all, flat_map};
-ghost use Rattle.pt_value.specs.Text.{HasDate, bytes_text, hex, hex_digit, is_plain, shown};
+ghost use Rattle.pt_value.specs.Text.{CanShow, bytes_text, hex, hex_digit, is_plain, shown};
 
 use crate::value::{Bin, Value};
 use crate::written::Written;
@@ -10,7 +10,7 @@ impl Value {
     /// The printed text: `NULL`, a decimal number, YYYY-MM-DD, bytes in single quotes, or where one of these is a quote, a
     /// backslash or no printable ASCII, `X'..'` with their hexadecimal digits.
     pub fn show(&self, alloc: Global) -> Result<Bin, AllocError>
-        requires { HasDate self.now }
+        requires { CanShow self.now }
         ensures { IfOk result (λ text. text ≡ shown self.now) }
     {
         match self {

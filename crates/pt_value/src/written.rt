@@ -1,7 +1,8 @@
 ghost use Rattle.std.specs.Prelude.{◌≡◌, ◌+◌, ◌/◌, ◌%◌, ◌<◌, ◌≤◌, ℕ, IfSome, IfNone};
 ghost use Rattle.pt_value.specs.Calendar.{Date, IsDate, date_of};
 ghost use Rattle.pt_value.specs.Fits.{FitsDate};
-ghost use Rattle.pt_value.specs.Text.{IsDayOf, IsShort, IsWritten, date_text};
+ghost use Rattle.pt_value.specs.Digits.{IsDayOf, IsShort, IsWritten};
+ghost use Rattle.pt_value.specs.Text.{date_text};
 
 use crate::days::date_of;
 use jiff::civil;
