@@ -1,42 +1,25 @@
-use pt_value::{
-    Bin, Cell, Ident, Kind, NameFault, Truth, Value, day_of_month, day_of_text, day_of_week,
-    day_of_year, month, quarter, to_days, weekday, year,
-};
-use std::alloc::{AllocError, Global};
+use crate::{bytes_value, numbers_of};
+use pt_value::{Cell, Ident, Kind, NameFault, Truth, Value, day_of_text};
 use std::cmp::Ordering;
 use std::test::Fail;
 
-fn bytes_value(alloc: Global, bytes: &[u8]) -> Result<Value, AllocError> {
-    Ok(Value::Bytes(Bin::from_slice(alloc, bytes)?))
-}
-
 #[test]
 fn days_have_the_parts_of_their_dates(rt: HostRuntime) -> Result<(), Fail> {
-    for (text, parts) in [
-        ("1970-01-01", [0, 719528, 1970, 1, 1, 1, 5, 3, 1]),
-        ("1969-12-31", [-1, 719527, 1969, 12, 31, 365, 4, 2, 4]),
-        ("2003-04-14", [12156, 731684, 2003, 4, 14, 104, 2, 0, 2]),
-        ("1998-10-19", [10518, 730046, 1998, 10, 19, 292, 2, 0, 4]),
-        ("2005-09-15", [13041, 732569, 2005, 9, 15, 258, 5, 3, 3]),
-        ("2007-10-07", [13793, 733321, 2007, 10, 7, 280, 1, 6, 4]),
-        ("2000-02-29", [11016, 730544, 2000, 2, 29, 60, 3, 1, 1]),
-        ("2000-12-31", [11322, 730850, 2000, 12, 31, 366, 1, 6, 4]),
-        ("1000-01-01", [-354285, 365243, 1000, 1, 1, 1, 4, 2, 1]),
-        ("9999-12-31", [2932896, 3652424, 9999, 12, 31, 365, 6, 4, 4]),
+    for (text, number, numbers) in [
+        ("1970-01-01", 0, [719528, 1970, 1, 1, 1, 5, 3, 1]),
+        ("1969-12-31", -1, [719527, 1969, 12, 31, 365, 4, 2, 4]),
+        ("2003-04-14", 12156, [731684, 2003, 4, 14, 104, 2, 0, 2]),
+        ("1998-10-19", 10518, [730046, 1998, 10, 19, 292, 2, 0, 4]),
+        ("2005-09-15", 13041, [732569, 2005, 9, 15, 258, 5, 3, 3]),
+        ("2007-10-07", 13793, [733321, 2007, 10, 7, 280, 1, 6, 4]),
+        ("2000-02-29", 11016, [730544, 2000, 2, 29, 60, 3, 1, 1]),
+        ("2000-12-31", 11322, [730850, 2000, 12, 31, 366, 1, 6, 4]),
+        ("1000-01-01", -354285, [365243, 1000, 1, 1, 1, 4, 2, 1]),
+        ("9999-12-31", 2932896, [3652424, 9999, 12, 31, 365, 6, 4, 4]),
     ] {
         let day = day_of_text(text.as_bytes()).ok_or("no date")?;
-        let found = [
-            day,
-            to_days(day),
-            year(day),
-            month(day),
-            day_of_month(day),
-            day_of_year(day),
-            day_of_week(day),
-            weekday(day),
-            quarter(day),
-        ];
-        assert_eq!(rt; found, parts, "{text}");
+        assert_eq!(rt; day, number, "{text}");
+        assert_eq!(rt; numbers_of(day), numbers, "{text}");
         assert_eq!(rt; Value::Day(day).show(rt.alloc())?.items(), text.as_bytes());
     }
     Ok(())
