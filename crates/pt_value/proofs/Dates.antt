@@ -1,7 +1,8 @@
 -- The calendar's walk from date to date and its count of days lead to the same dates.
-use Rattle.std.proofs.Common.{◌≡◌, ℕ, zero, suc, ◌+◌, ◌-◌, ◌<◌, ◌≤◌, nat_lt, refl, ap, subst, ◌∙◌, arith, ℤ, pos, neg_ℤ, ◌+ℤ◌, ◌-ℤ◌, ◌≤ℤ◌, unsigned_abs, inl, inr}
+use Rattle.std.proofs.Common.{◌≡◌, ◌↔◌, ℕ, zero, suc, ◌+◌, ◌-◌, ◌<◌, ◌≤◌, nat_lt, refl, sym, ap, subst, ◌∙◌, arith, ℤ, pos, neg_ℤ, ◌+ℤ◌, ◌-ℤ◌, ◌≤ℤ◌, unsigned_abs, inl, inr}
 use Rattle.std.proofs.lemmas.Bool.{cases_order, cond_both, ltb-true, ltb-false}
 use Rattle.std.proofs.lemmas.Int.{ints}
+use Rattle.std.specs.Int.{IsInRange}
 use Rattle.pt_value.specs.Fits.{FitsDate}
 use Rattle.pt_value.specs.Calendar.{day_of_year, days_in_month, Date, IsDate, days_of_months, days_of_years, days_before, day_number, next_date, date_after, date_of}
 
@@ -175,9 +176,12 @@ day_of_date d h =
     one_date (date_of (day_number d)) d at.is h (at.count ∙ from_day (day_number d) (pos (days_before d)) (days_before d) refl refl)
 
 -- 1970-01-01 is day 0
-pub epoch : day_number (date 1970 1 1) ≡ pos 0
+epoch : day_number (date 1970 1 1) ≡ pos 0
 unfolding days_of_months days_of_years
 epoch = refl
+
+pub date_of_zero : date_of (pos 0) ≡ date 1970 1 1
+date_of_zero = sym (ap date_of epoch) ∙ day_of_date (date 1970 1 1) (record { month_in = (omega arith, omega arith); day_in = (omega arith, omega (arith, days_in_month_bounds 1970 1)) })
 
 -- 365,243 days come before the year 1000
 days_of_years-1000 : days_of_years 1000 ≡ 365_243
@@ -233,3 +237,12 @@ date_of-late day h =
 
 pub fitting_day : (day : ℤ) → FitsDate day → day_number (date_of day) ≡ day
 fitting_day day h = (date_of_day day (omega (arith, ints, h.0))).1
+
+-- the days that fit DATE are those of the years 1000 to 9999
+pub fits_exactly : (d : Date) → IsDate d → FitsDate (day_number d) ↔ IsInRange 1000 9999 d.year
+fits_exactly d h = (
+  (λ fitting.
+      let late : IsLate d = subst IsLate (day_of_date d h) (date_of-late (day_number d) fitting) in
+      (late.first, (let last = late.last in omega arith))),
+  (λ years. fits_date d (record { is = h; first = years.0; last = (let last = years.1 in omega arith) })),
+)

@@ -97,5 +97,6 @@ fn numbered(day: i32) -> Date
     requires { FitsDate day }
     ensures { epoch_day result ≡ day }
 {
+    // The kit counts from -9999-01-01, 4,371,587 days before 1970-01-01.
     Date::from_plain(civil::Date::from_days_since_min((day + 4_371_587) as u32))
 }

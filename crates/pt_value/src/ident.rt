@@ -1,9 +1,8 @@
-ghost use Rattle.std.specs.Prelude.{◌≡◌, ◌↔◌, map, All, Some, IsTrue, IfSome, IfNone, IfOk, IfErr, nat_eq, refl};
-ghost use Rattle.std.specs.Char.{to_ascii_lowercase};
+ghost use Rattle.std.specs.Prelude.{◌≡◌, ◌↔◌, All, Some, IsTrue, IfSome, IfNone, IfOk, IfErr, nat_eq, refl};
 ghost use Rattle.std.specs.Cmp.{partial_equiv_from_equiv};
 ghost use Rattle.std.specs.Cmp.Lexicographic.{pointwise, slice_cmp, nat_list_eq_equiv, nat_list_cmp_total, texts_po, texts_ties};
 ghost use Rattle.std.specs.Ordering.{nat_cmp};
-ghost use Rattle.pt_value.specs.Ident.{IsFirstBad, IsIdent, is_ident_byte};
+ghost use Rattle.pt_value.specs.Ident.{IsFirstBad, IsIdent, IsSameName, is_ident_byte};
 
 use pt_plain::padded;
 use std::cmp::Ordering;
@@ -79,7 +78,7 @@ impl Ident {
 
     /// Whether two identifiers are the same but for the case of their letters. It takes no memory.
     pub fn same(&self, other: &Ident) -> bool
-        ensures { IsTrue result ↔ (map to_ascii_lowercase self.now ≡ map to_ascii_lowercase other.now) }
+        ensures { IsTrue result ↔ IsSameName self.now other.now }
     {
         self.bytes().eq_ignore_ascii_case(other.bytes())
     }

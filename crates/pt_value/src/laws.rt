@@ -1,6 +1,6 @@
 ghost use Rattle.pt_value.specs.Laws.{OneDate, OneSpelling, OneValue};
 
-/// A day has one date, and a date one day.
+/// A day has one date, and a date one day, by walking and by counting.
 pub fn one_date()
     ensures { OneDate }
 {}

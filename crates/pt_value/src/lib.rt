@@ -7,8 +7,9 @@
 //! - `Truth` has three values; AND is the `least`, OR the `greatest`, NOT the `turned`.
 //! - A day is a count of days from 1970-01-01. Its parts are those of `date_of`, the calendar's date of that day, and
 //!   `day_of_text` gives the day that bytes spell, where `SpellsDay` says that they do.
+//! - `one_date`, `one_spelling` and `one_value` are theorems about these definitions.
 //!
-//! It stands on `pt_plain`, and for the calendar on `jiff`.
+//! Only `show` and `copy` take memory. It stands on `pt_plain`, and for the calendar on `jiff`.
 #![tactic(auto)]
 
 mod days;

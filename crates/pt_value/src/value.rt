@@ -21,12 +21,16 @@ pub enum Value {
     Bytes(Bin),
 }
 
-/// What a column takes. A `Binary` column takes byte strings of at most that many bytes.
+/// What a column takes, besides NULL.
 #[derive(Clone, Copy, Debug, PartialEq, Eq)]
 pub enum Kind {
+    /// Integers of 4 bytes.
     Int,
+    /// Integers of 8 bytes.
     BigInt,
+    /// Days from 1000-01-01 to 9999-12-31.
     Date,
+    /// Byte strings of at most this many bytes.
     Binary(u16),
 }
 
