@@ -1,0 +1,5 @@
+pub mod Dates
+pub mod Civil
+pub mod Reading
+pub mod Parts
+pub mod Order

@@ -1,0 +1,5 @@
+use Rattle.pt_value.proofs.Reading.{one_day}
+use Rattle.pt_value.proofs.laws.one_spelling.Goals as goal
+
+pub returns : goal.returns
+returns c = one_day

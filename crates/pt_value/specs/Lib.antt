@@ -1,0 +1,11 @@
+pub mod Ident
+pub mod NameFault
+pub mod Value
+pub mod Fits
+pub mod Truth
+pub mod Cell
+pub mod Calendar
+pub mod Text
+pub mod Laws
+pub mod Digits
+pub mod Written

@@ -1,0 +1,16 @@
+ghost use Rattle.pt_value.specs.Laws.{OneDate, OneSpelling, OneValue};
+
+/// A day has one date, and a date one day, by walking and by counting.
+pub fn one_date()
+    ensures { OneDate }
+{}
+
+/// Bytes spell one day at most.
+pub fn one_spelling()
+    ensures { OneSpelling }
+{}
+
+/// No two values tie.
+pub fn one_value()
+    ensures { OneValue }
+{}
