@@ -1,7 +1,7 @@
-use super::*;
-use pt_flat::{Db, Stmt, Word, is_word_byte, step, syntax_reply};
-use pt_host::{Image, Name};
+use pt_host::{Host, Image, Name};
+use pt_memhost::MemHost;
 use pt_plain::{List, joined, padded};
+use std::alloc::Global;
 use std::test::Fail;
 
 #[test]
@@ -82,40 +82,5 @@ fn a_host_starts_on_an_image(rt: HostRuntime) -> Result<(), Fail> {
         assert_eq!(rt; found, length, "{name}");
     }
     assert_eq!(rt; (host.calls(), host.starved()), (4, 0));
-    Ok(())
-}
-
-#[test]
-fn a_database_takes_steps(rt: HostRuntime) -> Result<(), Fail> {
-    let table = Word::of(b"t").ok_or("no word")?;
-    let column = Word::of(b"c").ok_or("no word")?;
-    let mut db = Db::empty(rt.alloc());
-    for (stmt, code, text) in [
-        (Stmt::Select { table }, 11, "error 11 no_such_table t\n"),
-        (Stmt::Create { table, column }, 0, "ok\n"),
-        (Stmt::Insert { table, value: -7 }, 0, "ok 1\n"),
-        (
-            Stmt::Insert {
-                table,
-                value: 1 << 31,
-            },
-            16,
-            "error 16 out_of_range 1\n",
-        ),
-        (Stmt::Select { table }, 0, "-7\nrows 1\n"),
-    ] {
-        let reply = step(rt.alloc(), &mut db, &stmt)?;
-        assert_eq!(rt;
-            (reply.code(), reply.bytes()),
-            (code, text.as_bytes()),
-            "{text}"
-        );
-    }
-    assert_eq!(rt;
-        syntax_reply(rt.alloc(), 12)?.bytes(),
-        b"error 1 syntax 12\n".as_slice()
-    );
-    assert_eq!(rt; (is_word_byte(b'$'), is_word_byte(b'-')), (true, false));
-    pt_engine::one_reading();
     Ok(())
 }

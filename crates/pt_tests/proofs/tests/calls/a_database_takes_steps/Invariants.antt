@@ -1,5 +1,0 @@
-use Rattle.pt_flat.specs.Sound.{IsSound}
-use Rattle.pt_tests.proofs.tests.calls.a_database_takes_steps.Given as goal
-
-abbrev pub invariant-loop-stmt : goal.invariant-loop-stmt
-invariant-loop-stmt g l = IsSound l.db
