@@ -9,6 +9,7 @@
 //! It stands on `pt_plain` and `pt_value`.
 #![tactic(auto)]
 
+mod copy;
 mod database;
 mod reply;
 mod statement;
@@ -16,6 +17,7 @@ mod table;
 mod tree;
 mod written;
 
+pub use copy::copy_cells;
 pub use database::{Cells, Db, Row, Rows, Spot, Table, Tables};
 pub use reply::{Arg, Refusal, Reply};
 pub use statement::{
