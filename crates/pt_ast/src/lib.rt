@@ -3,6 +3,9 @@
 //! - Every list is a `List` and every boxed child a `Held`, so equal trees are equal values, and each compares by `==`.
 //! - A `Stmt` is a statement as written, with its conditions (`Cond`) and expressions (`Expr`). A `TableSpec` is a table as written,
 //!   a `TableDef` its complete definition.
+//! - `copy` gives an equal value of an expression, of cells (`copy_cells`), of a row and of a definition.
+//! - `IsStorableExpr`, `IsStorableCond`, `IsStorableStmt`, `IsStorableSpec` and `IsStorableDef` say which trees are handed from call
+//!   to call and written to a file: how deep they nest, which lists may be empty, which numbers may stand in them.
 //! - `Tables` are tables whose names rise, by `NamesRise`, each name once: a set of tables is one value. `Db` is a database.
 //! - `Reply` is what a statement answers.
 //!
