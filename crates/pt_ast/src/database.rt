@@ -1,0 +1,97 @@
+ghost use Rattle.std.specs.Prelude.{◌≡◌};
+ghost use Rattle.pt_ast.specs.Rising.{NamesRise};
+
+use crate::TableDef;
+use pt_plain::List;
+use pt_value::{Ident, Value};
+use std::alloc::Global;
+use std::marker::Model;
+
+/// Where a row stands: the number of its partition, and of its subpartition in that. Both count from 0. An unpartitioned
+/// table has the one spot (0, 0), and without subpartitions `sub` is 0.
+#[derive(Clone, Copy, Debug, PartialEq, Eq)]
+pub struct Spot {
+    pub part: u32,
+    pub sub: u32,
+}
+
+/// The values of a row, one a column.
+pub type Cells = List<Value>;
+
+/// A row, with the serial number that it got when it was inserted.
+#[derive(Debug, Drop, PartialEq)]
+pub struct Row {
+    pub serial: u64,
+    pub cells: Cells,
+}
+
+/// Rows.
+pub type Rows = List<Row>;
+
+/// A table: its rows stand by rising serial.
+#[derive(Debug, Drop, PartialEq)]
+pub struct Table {
+    pub name: Ident,
+    pub def: TableDef,
+    pub rows: Rows,
+}
+
+/// Tables whose names rise in byte order, each name once. Contracts see the list of them.
+#[derive(Debug, Drop, PartialEq)]
+pub struct Tables {
+    list: List<Table>,
+}
+
+impl Model for Tables {
+    ghost use Rattle.std.specs.Prelude.{List as Listed};
+    ghost use Rattle.std.specs.Coded.{coded_list};
+    ghost use Rattle.pt_ast.specs.declared.database.Table.{Table};
+    ghost use Rattle.pt_ast.specs.contracts.database.Table as table;
+    ghost use Rattle.pt_ast.specs.Rising.{NamesRise};
+
+    ghost Value = { Listed Table };
+
+    ghost coded = { coded_list table.the_row.coded };
+
+    ghost view = { λ tables. tables.list };
+
+    ghost invariant = { λ tables. NamesRise tables.list };
+
+    ghost inverse = { λ tables. record { list = tables } };
+}
+
+impl Tables {
+    /// These tables. It takes no memory.
+    pub fn of(items: Vec<Table>) -> Tables
+        requires { NamesRise items.items }
+        ensures { result ≡ items.items }
+    {
+        Tables {
+            list: List::of(items),
+        }
+    }
+
+    /// The tables, lent. It takes no memory.
+    pub fn items(&self) -> &[Table]
+        ensures value { result.now ≡ self.now }
+        ensures rising { NamesRise self.now }
+    {
+        self.list.items()
+    }
+
+    /// The tables, given back. It takes no memory.
+    pub fn into_vec(self) -> Vec<Table>
+        ensures value { result.items ≡ self }
+        ensures rising { NamesRise self }
+    {
+        let Tables { list } = self;
+        list.into_vec()
+    }
+}
+
+/// A database: its tables, and the serial number that the next row takes.
+#[derive(Debug, Drop, PartialEq)]
+pub struct Db {
+    pub tables: Tables,
+    pub next: u64,
+}

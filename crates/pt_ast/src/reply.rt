@@ -1,0 +1,44 @@
+ghost use Rattle.std.specs.Prelude.{◌≡◌};
+
+use pt_value::{Bin, Ident};
+
+/// What a refusal is about.
+#[derive(Clone, Copy, Debug, PartialEq, Eq)]
+pub enum Arg {
+    Name(Ident),
+    Number(u64),
+    /// The primary key, printed `PRIMARY`.
+    Primary,
+    /// `KEY` without columns, printed `KEY`.
+    Key,
+}
+
+/// Why a statement is refused.
+#[derive(Clone, Copy, Debug, PartialEq, Eq)]
+pub struct Refusal {
+    pub code: u8,
+    pub arg: Arg,
+}
+
+/// What a statement answers: whole lines of text, and the code of its refusal, 0 where it isn't refused.
+#[derive(Debug, Drop, PartialEq)]
+pub struct Reply {
+    pub code: u8,
+    pub text: Bin,
+}
+
+impl Reply {
+    /// The text: whole lines, each ended by a line feed. It takes no memory.
+    pub fn bytes(&self) -> &[u8]
+        ensures { result.now ≡ self.now.text }
+    {
+        self.text.items()
+    }
+
+    /// The code of the refusal, 0 where the statement isn't refused. It takes no memory.
+    pub fn code(&self) -> u8
+        ensures { result ≡ self.now.code }
+    {
+        self.code
+    }
+}
