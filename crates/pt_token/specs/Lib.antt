@@ -1,0 +1,5 @@
+pub mod Bytes
+pub mod Machine
+pub mod Pieces
+pub mod Gap
+pub mod Splitting
