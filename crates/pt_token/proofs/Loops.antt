@@ -1,5 +1,5 @@
 -- The steps of loops over bytes.
-use Rattle.std.proofs.Common.{◌≡◌, ℕ, suc, ◌+◌, ◌<◌, ◌≤◌, Bool, true, false, cond, List, [], ◌∷◌, ◌++◌, length, take, drop, get_or, Option, Some, None, IsTrue, All, refl, ap, ◌∙◌, sym, subst, arith, append-nil}
+use Rattle.std.proofs.Common.{◌≡◌, ℕ, suc, ◌+◌, ◌<◌, ◌≤◌, Bool, true, false, cond, List, [], ◌∷◌, ◌++◌, length, take, drop, get_or, Option, Some, None, refl, ap, ◌∙◌, sym, arith, append-nil, append_assoc, ◌*◌}
 use Rattle.std.specs.Option.{option_map}
 use Rattle.std.specs.List.{take_while}
 use Rattle.std.proofs.lemmas.Grind.{common_steps}
@@ -10,6 +10,8 @@ use Rattle.pt_token.specs.declared.state.State.TheVariants.{Plain}
 use Rattle.pt_token.specs.Machine.{step, is_plain, is_cut, run}
 use Rattle.pt_token.specs.Pieces.{cut_in}
 use Rattle.pt_token.specs.Gap.{closing}
+use Rattle.pt_token.specs.declared.quoting.Quoting.{Quoting}
+use Rattle.pt_token.specs.Quoting.{added, behind_byte, content, ends, hex_bytes, hex_value, is_marked, text_end}
 
 -- a place that is counted from i
 abbrev pub moved : ℕ → Option ℕ → Option ℕ
@@ -98,3 +100,58 @@ front_end p bytes i h so_far =
 -- a piece and the bytes behind it
 pub run_on : (s now : State) (piece front all : List ℕ) → s ≡ run Plain piece → now ≡ run s front → all ≡ piece ++ front → now ≡ run Plain all
 run_on s now piece front all before after whole = after ∙ ap (λ t. run t front) before ∙ sym (run-append Plain piece front) ∙ ap (run Plain) (sym whole)
+
+pub text_end-byte : (mark : ℕ) (at : Quoting) (bytes : List ℕ) (i : ℕ) → i < length bytes
+    → text_end mark at (drop i bytes) ≡ cond (ends mark at (get_or bytes i 0)) (Some 0) (option_map suc (text_end mark (behind_byte mark at (get_or bytes i 0)) (drop (i + 1) bytes)))
+unfolding text_end
+text_end-byte mark at bytes i h = at_drop_more (text_end mark at) bytes i 0 h
+
+pub text_found : (whole : Option ℕ) (mark : ℕ) (at : Quoting) (bytes : List ℕ) (i : ℕ) → i < length bytes → whole ≡ moved i (text_end mark at (drop i bytes))
+    → ends mark at (get_or bytes i 0) ≡ true → whole ≡ Some i
+text_found whole mark at bytes i h so_far ends = so_far ∙ ap (moved i) (text_end-byte mark at bytes i h) ∙ rw ends (ap Some (omega arith))
+
+pub text_more : (whole : Option ℕ) (mark : ℕ) (at : Quoting) (bytes : List ℕ) (i : ℕ) → i < length bytes → whole ≡ moved i (text_end mark at (drop i bytes))
+    → ends mark at (get_or bytes i 0) ≡ false → whole ≡ moved (i + 1) (text_end mark (behind_byte mark at (get_or bytes i 0)) (drop (i + 1) bytes))
+text_more whole mark at bytes i h so_far goes_on =
+    so_far ∙ ap (moved i) (text_end-byte mark at bytes i h) ∙ rw goes_on (moved-suc i (text_end mark (behind_byte mark at (get_or bytes i 0)) (drop (i + 1) bytes)))
+
+text_over : (whole : Option ℕ) (mark : ℕ) (at : Quoting) (bytes : List ℕ) (i : ℕ) → length bytes ≤ i → whole ≡ moved i (text_end mark at (drop i bytes))
+    → whole ≡ moved i (cond (is_marked at) (Some 0) None)
+unfolding text_end
+text_over whole mark at bytes i h so_far = so_far ∙ ap (moved i) (at_drop_all (text_end mark at) bytes i h)
+
+pub text_closed : (whole : Option ℕ) (mark : ℕ) (at : Quoting) (bytes : List ℕ) (i : ℕ) → length bytes ≤ i → i ≤ length bytes → whole ≡ moved i (text_end mark at (drop i bytes))
+    → is_marked at ≡ true → whole ≡ Some (length bytes)
+text_closed whole mark at bytes i h g so_far marked = text_over whole mark at bytes i h so_far ∙ rw marked (ap Some (omega arith))
+
+pub text_open : (whole : Option ℕ) (mark : ℕ) (at : Quoting) (bytes : List ℕ) (i : ℕ) → length bytes ≤ i → whole ≡ moved i (text_end mark at (drop i bytes))
+    → is_marked at ≡ false → whole ≡ None
+text_open whole mark at bytes i h so_far other = text_over whole mark at bytes i h so_far ∙ rw other refl
+
+pub content_more : (whole text new : List ℕ) (mark : ℕ) (at : Quoting) (bytes : List ℕ) (i : ℕ) → i < length bytes → whole ≡ text ++ content mark at (drop i bytes)
+    → new ≡ text ++ added at (get_or bytes i 0) → whole ≡ new ++ content mark (behind_byte mark at (get_or bytes i 0)) (drop (i + 1) bytes)
+unfolding content
+content_more whole text new mark at bytes i h so_far push =
+    so_far ∙ ap (λ more. text ++ more) (at_drop_more (content mark at) bytes i 0 h)
+    ∙ sym (append_assoc text (added at (get_or bytes i 0)) (content mark (behind_byte mark at (get_or bytes i 0)) (drop (i + 1) bytes)))
+    ∙ ap (λ front. front ++ content mark (behind_byte mark at (get_or bytes i 0)) (drop (i + 1) bytes)) (sym push)
+
+pub content_end : (whole text : List ℕ) (mark : ℕ) (at : Quoting) (bytes : List ℕ) (i : ℕ) → length bytes ≤ i → whole ≡ text ++ content mark at (drop i bytes) → whole ≡ text
+unfolding content
+content_end whole text mark at bytes i h so_far = so_far ∙ ap (λ more. text ++ more) (at_drop_all (content mark at) bytes i h) ∙ append-nil text
+
+-- the next pair of digits
+pub hex_more : (whole out new digits rest : List ℕ) (byte : ℕ) → 2 ≤ length digits → whole ≡ out ++ hex_bytes digits
+    → byte ≡ 16 * hex_value (get_or digits 0 0) + hex_value (get_or digits 1 0) → new ≡ out ++ byte ∷ [] → rest ≡ drop 2 digits → whole ≡ new ++ hex_bytes rest
+unfolding hex_bytes
+hex_more whole out new [] rest byte some so_far value push left = absurd (omega arith)
+hex_more whole out new (high ∷ []) rest byte some so_far value push left = absurd (omega arith)
+hex_more whole out new (high ∷ low ∷ digits) rest byte some so_far value push left =
+    let same : rest ≡ digits = left in
+    so_far ∙ ap (λ b. out ++ b ∷ hex_bytes digits) (sym value) ∙ sym (append_assoc out (byte ∷ []) (hex_bytes digits)) ∙ cc
+
+pub hex_end : (whole out digits : List ℕ) → length digits < 2 → whole ≡ out ++ hex_bytes digits → whole ≡ out
+unfolding hex_bytes
+hex_end whole out [] few so_far = so_far ∙ append-nil out
+hex_end whole out (b ∷ []) few so_far = so_far ∙ append-nil out
+hex_end whole out (b ∷ c ∷ digits) few so_far = absurd (omega arith)

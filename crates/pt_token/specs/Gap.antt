@@ -1,13 +1,14 @@
 -- White space and comments. In a comment that is read, as in `/*!50100 .. */`, only white space and its end are such.
 use Rattle.std.specs.Prelude.{◌≡◌, ℕ, suc, ◌+◌, ◌-◌, ◌*◌, Bool, true, false, ◌&&◌, ◌||◌, ◌==◌, nat_le, nat_eq, if◌then◌else◌, List, [], ◌∷◌, length, drop, codes, slice_index, Option, Some, None, unwrap_or}
-use Rattle.std.specs.List.{fold, take_while, starts_with}
+use Rattle.std.specs.List.{fold, starts_with}
 use Rattle.std.specs.Option.{option_map}
 use Rattle.pt_token.specs.declared.state.State.{State}
 use Rattle.pt_token.specs.declared.state.State.TheVariants.{Line, Opened}
 use Rattle.pt_token.specs.declared.comment.Comment.{Comment}
 use Rattle.pt_token.specs.declared.comment.Comment.TheVariants.{Plain, Read, Malformed}
 use Rattle.pt_token.specs.declared.gap.Gap.{Gap}
-use Rattle.pt_token.specs.Bytes.{is_digit, is_white}
+use Rattle.pt_token.specs.declared.bytes.Class.TheVariants.{Digit}
+use Rattle.pt_token.specs.Bytes.{front, is_white}
 use Rattle.pt_token.specs.Machine.{step, is_plain}
 
 -- How many bytes what is open goes on for, with its end. None where it has no end among these.
@@ -18,9 +19,6 @@ closing s (b ∷ bytes) = if is_plain (step s b) then Some 1 else option_map suc
 -- how many bytes there are to the line's end, with its line feed
 abbrev pub line : List ℕ → ℕ
 line bytes = unwrap_or (closing Line bytes) (length bytes)
-
-abbrev pub digits : List ℕ → List ℕ
-digits bytes = take_while is_digit bytes
 
 -- the number that digits write
 abbrev pub number : List ℕ → ℕ
@@ -34,7 +32,7 @@ by_digits ds =
 
 -- what kind of a comment it is, by the bytes behind `/*`
 unfoldable pub kind : List ℕ → Comment
-kind bytes = if slice_index bytes 0 == 33 then by_digits (digits (drop 1 bytes)) else Plain
+kind bytes = if slice_index bytes 0 == 33 then by_digits (front Digit (drop 1 bytes)) else Plain
 
 -- the bytes behind the `/*` that belong to the opener of a comment that is read
 abbrev pub opener : Comment → ℕ

@@ -1,6 +1,5 @@
 -- The pieces of a script. A `;` outside quotes and comments ends a piece and belongs to none.
-use Rattle.std.specs.Prelude.{ℕ, suc, ◌+◌, ◌^◌, if◌then◌else◌, nat_le, List, [], ◌∷◌, ◌++◌, length, take, Option, Some, None}
-use Rattle.std.specs.List.{take_while}
+use Rattle.std.specs.Prelude.{ℕ, suc, ◌+◌, ◌^◌, if◌then◌else◌, List, [], ◌∷◌, ◌++◌, length, take, Option, Some, None}
 use Rattle.std.specs.Option.{option_map}
 use Rattle.pt_token.specs.declared.state.State.{State}
 use Rattle.pt_token.specs.declared.state.State.TheVariants.{Plain}

@@ -1,8 +1,8 @@
 -- What a splitter stands for, and what it is fed.
-use Rattle.std.specs.Prelude.{◌≡◌, ◌<◌, ◌≤◌, ℕ, Bool, true, false, is_some, List, ◌++◌, length, Option}
+use Rattle.std.specs.Prelude.{◌≡◌, ℕ, Bool, false, List, ◌++◌, Option}
 use Rattle.pt_token.specs.declared.state.State.TheVariants.{Plain}
 use Rattle.pt_token.specs.Machine.{run}
-use Rattle.pt_token.specs.Pieces.{cut_in, before_cut, used_by, most_piece}
+use Rattle.pt_token.specs.Pieces.{cut_in, before_cut}
 
 -- the piece so far; whether a cut ended it; whether a call was refused
 pub record Split : Type 0 where

@@ -1,8 +1,9 @@
 ghost use Rattle.std.specs.Prelude.{◌≡◌, ◌<◌, ◌≤◌, length, All, IsTrue, IfSome};
 ghost use Rattle.pt_token.specs.Bytes.{is_digit};
-ghost use Rattle.pt_token.specs.Gap.{closing, digits, kind, line, number, opener};
+ghost use Rattle.pt_token.specs.Gap.{closing, kind, line, number, opener};
 
-use crate::state::{State, is_digit};
+use crate::bytes::{Class, front};
+use crate::state::State;
 
 /// What kind of a comment a `/*` opens.
 #[derive(Clone, Copy, Debug)]
@@ -47,27 +48,13 @@ pub(crate) fn kind(bytes: &[u8]) -> Comment
     if !bytes.starts_with(b"!") {
         return Comment::Plain;
     }
-    let number = digits(&bytes[1..]);
+    let number = front(Class::Digit, &bytes[1..]);
     match number.len() {
         0 => Comment::Read(1),
         5 if number_of(number) <= 50_799 => Comment::Read(6),
         5 => Comment::Plain,
         _ => Comment::Malformed,
     }
-}
-
-/// The digits that bytes begin with.
-fn digits(bytes: &[u8]) -> &[u8]
-    ensures value { result.now ≡ digits bytes.now }
-    ensures each { All (λ b. IsTrue (is_digit b)) result.now }
-    ensures within { length result.now ≤ length bytes.now }
-{
-    for (i, b) in bytes.iter().enumerate() {
-        if !is_digit(*b) {
-            return &bytes[..i];
-        }
-    }
-    bytes
 }
 
 /// The number that five digits write.

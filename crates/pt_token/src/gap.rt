@@ -1,10 +1,11 @@
-ghost use Rattle.std.specs.Prelude.{◌≡◌, ◌↔◌, ◌+◌, ◌<◌, ◌≤◌, ◌^◌, length, drop, slice_index, false, IsTrue, IfSome};
+ghost use Rattle.std.specs.Prelude.{◌≡◌, ◌↔◌, ◌+◌, ◌<◌, ◌≤◌, ◌^◌, length, slice_index, false, IsTrue, IfSome};
 ghost use Rattle.pt_token.specs.Bytes.{is_white};
 ghost use Rattle.pt_token.specs.Gap.{IsBlank, closing, comment_gap, gap_inside, gap_of, gap_outside, is_dashes, kind, next_gap};
 ghost use Rattle.pt_token.specs.declared.state.State.TheVariants.{Opened};
 
+use crate::bytes::{behind, is_white};
 use crate::comment::{Comment, closing, kind, line};
-use crate::state::{State, is_white};
+use crate::state::State;
 
 /// White space or a comment at the front of bytes.
 #[derive(Clone, Copy, Debug)]
@@ -111,14 +112,6 @@ fn comment_gap(bytes: &[u8]) -> Option<Gap>
         }),
         Comment::Malformed => None,
     }
-}
-
-/// The bytes from a place on.
-fn behind(bytes: &[u8], place: usize) -> &[u8]
-    requires { place ≤ length bytes.now }
-    ensures { result.now ≡ drop place bytes.now }
-{
-    &bytes[place..]
 }
 
 fn begins_with_white(bytes: &[u8]) -> bool

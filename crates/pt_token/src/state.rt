@@ -1,6 +1,7 @@
 ghost use Rattle.std.specs.Prelude.{◌≡◌};
 ghost use Rattle.pt_token.specs.Machine.{after_version, from_block, from_plain, from_read, is_cut, is_outside, is_plain, step};
-ghost use Rattle.pt_token.specs.Bytes.{is_digit, is_white};
+
+use crate::bytes::{is_digit, is_white};
 
 /// Where the next byte of a script stands. A quote keeps its mark, `'` or `"`.
 #[derive(Clone, Copy, Debug)]
@@ -137,18 +138,4 @@ fn after_version(version: u32, b: u8) -> State
     } else {
         from_block(b)
     }
-}
-
-/// Whether a byte is a space, a tab, a line feed, a carriage return or one of the two bytes between these.
-pub(crate) fn is_white(b: u8) -> bool
-    ensures { result ≡ is_white b }
-{
-    b == b' ' || (9 <= b && b <= 13)
-}
-
-/// Whether a byte is a digit.
-pub(crate) fn is_digit(b: u8) -> bool
-    ensures { result ≡ is_digit b }
-{
-    b'0' <= b && b <= b'9'
 }

@@ -1,4 +1,3 @@
-use Rattle.std.proofs.Common.{arith}
 use Rattle.pt_token.proofs.Loops.{cut_more, run_more}
 use Rattle.pt_token.proofs.splitter.next_cut.Goals as goal
 

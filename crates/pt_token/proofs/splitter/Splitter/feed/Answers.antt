@@ -1,4 +1,4 @@
-use Rattle.std.proofs.Common.{◌≡◌, ◌≤◌, ◌++◌, length, arith, ap, length-append}
+use Rattle.std.proofs.Common.{◌≡◌, ◌++◌, length, arith, ap, length-append}
 use Rattle.pt_token.proofs.Loops.{run_on}
 use Rattle.pt_token.proofs.splitter.Splitter.feed.Goals as goal
 
