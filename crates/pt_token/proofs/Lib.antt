@@ -1,3 +1,6 @@
 pub mod Loops
 pub mod Blanks
 pub mod Steps
+pub mod Feeding
+pub mod BlankTokens
+pub mod Cutting

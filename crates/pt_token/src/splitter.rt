@@ -77,6 +77,7 @@ impl Splitter {
         ensures whole { IfOk result (λ fed. fed.whole ≡ is_some (next_cut self.old.piece bytes.now)) }
         ensures piece { OnOk result (self.new.piece ≡ piece_after self.old.piece bytes.now) }
         ensures marks { IfOk result (λ fed. (self.new.whole ≡ fed.whole) × (self.new.spent ≡ false)) }
+        ensures within { IfOk result (λ fed. fed.used ≤ length bytes.now) }
         ensures fits { OnOk result (length self.new.piece ≤ most_piece) }
         ensures too_long { IfErr result (λ fault. fault ≡ SplitFault.TooLong → most_piece < length (piece_after self.old.piece bytes.now)) }
         ensures spent { OnErr result (self.new.spent ≡ true) }
@@ -152,6 +153,7 @@ fn before_cut(cut: Option<usize>, bytes: &[u8]) -> &[u8]
 fn reading(cut: Option<usize>, bytes: &[u8]) -> Fed
     requires { IfSome cut (λ place. place < length bytes.now) }
     ensures used { result.used ≡ used_by cut bytes.now }
+    ensures within { result.used ≤ length bytes.now }
     ensures whole { result.whole ≡ is_some cut }
 {
     match cut {
