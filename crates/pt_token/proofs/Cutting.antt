@@ -35,12 +35,12 @@ either_in : (v : Bool) (s t : State) → is_outside s ≡ false → (is_plain t 
 either_in true s t first second other = first
 either_in false s t first second other = second other
 
-version_by : (digit few read : Bool) (more reads other : State) → is_outside more ≡ false → is_outside reads ≡ false → is_outside other ≡ false
-    → is_outside (cond digit (cond few more Block) (cond read reads other)) ≡ false
-version_by true true read more reads other m o p = m
-version_by true false read more reads other m o p = refl
-version_by false few true more reads other m o p = o
-version_by false few false more reads other m o p = p
+version_by : (digit few read : Bool) (more inner other : State) → is_outside more ≡ false → is_outside inner ≡ false → is_outside other ≡ false
+    → is_outside (cond digit (cond few more Block) (cond read inner other)) ≡ false
+version_by true true read more inner other m o p = m
+version_by true false read more inner other m o p = refl
+version_by false few true more inner other m o p = o
+version_by false few false more inner other m o p = p
 
 version_in : (version b : ℕ) → is_outside (after_version version b) ≡ false
 version_in version b = version_by (is_digit b) (nat_lt version 100000) (version == 1 || (nat_le 100000 version && nat_le version 150799)) (Version (10 * version + (b - 48))) (from_read b) (from_block b) refl (read_in b) (block_in b)
