@@ -4,3 +4,4 @@ pub mod Steps
 pub mod Feeding
 pub mod BlankTokens
 pub mod Cutting
+pub mod Ending

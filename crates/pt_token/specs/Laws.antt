@@ -1,6 +1,7 @@
 -- What holds of the definitions themselves.
 use Rattle.std.specs.Prelude.{◌≡◌, ◌↔◌, ℕ, if◌then◌else◌, is_some, List, [], ◌∷◌, ◌++◌, drop, Some}
 use Rattle.pt_token.specs.declared.state.State.TheVariants.{Plain}
+use Rattle.pt_token.specs.Ends.{EndsAreFirst}
 use Rattle.pt_token.specs.Outside.{IsCutAt}
 use Rattle.pt_token.specs.Pieces.{cut_in, pieces, pieces_after, used_by}
 use Rattle.pt_token.specs.Splitting.{next_cut, piece_after}
@@ -29,3 +30,7 @@ BlankHasNoToken = (piece : List ℕ) → IsBlank piece ↔ IsLexed piece []
 -- The machine's first cut is the first `;` outside quotes and comments.
 abbrev pub CutsOutside : Type 0
 CutsOutside = (bytes : List ℕ) (place : ℕ) → (cut_in Plain bytes ≡ Some place) ↔ IsCutAt bytes place
+
+-- A line, a quote and a comment that isn't read go on up to their first ends.
+abbrev pub EndsFirst : Type 0
+EndsFirst = (bytes : List ℕ) → EndsAreFirst bytes

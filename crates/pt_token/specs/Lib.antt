@@ -2,6 +2,7 @@ pub mod Bytes
 pub mod Machine
 pub mod Pieces
 pub mod Gap
+pub mod Ends
 pub mod Outside
 pub mod Quoting
 pub mod Tokens

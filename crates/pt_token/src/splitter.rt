@@ -79,7 +79,7 @@ impl Splitter {
         ensures marks { IfOk result (λ fed. (self.new.whole ≡ fed.whole) × (self.new.spent ≡ false)) }
         ensures within { IfOk result (λ fed. fed.used ≤ length bytes.now) }
         ensures fits { OnOk result (length self.new.piece ≤ most_piece) }
-        ensures too_long { IfErr result (λ fault. fault ≡ SplitFault.TooLong → most_piece < length (piece_after self.old.piece bytes.now)) }
+        ensures too_long { IfErr result (λ fault. (fault ≡ SplitFault.TooLong) ↔ (most_piece < length (piece_after self.old.piece bytes.now))) }
         ensures spent { OnErr result (self.new.spent ≡ true) }
     {
         let mut state = self.state;
