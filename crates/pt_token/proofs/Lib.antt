@@ -1,0 +1,7 @@
+pub mod Loops
+pub mod Blanks
+pub mod Steps
+pub mod Feeding
+pub mod BlankTokens
+pub mod Cutting
+pub mod Ending

@@ -1,0 +1,82 @@
+-- White space and comments. In a comment that is read, as in `/*!50100 .. */`, only white space and its end are such.
+use Rattle.std.specs.Prelude.{◌≡◌, ℕ, suc, ◌+◌, ◌-◌, ◌*◌, Bool, true, false, ◌&&◌, ◌||◌, ◌==◌, nat_le, nat_eq, if◌then◌else◌, List, [], ◌∷◌, length, drop, codes, slice_index, Option, Some, None, unwrap_or}
+use Rattle.std.specs.List.{fold, starts_with}
+use Rattle.std.specs.Option.{option_map}
+use Rattle.pt_token.specs.declared.state.State.{State}
+use Rattle.pt_token.specs.declared.state.State.TheVariants.{Line, Opened}
+use Rattle.pt_token.specs.declared.comment.Comment.{Comment}
+use Rattle.pt_token.specs.declared.comment.Comment.TheVariants.{Plain, Read, Malformed}
+use Rattle.pt_token.specs.declared.gap.Gap.{Gap}
+use Rattle.pt_token.specs.declared.bytes.Class.TheVariants.{Digit}
+use Rattle.pt_token.specs.Bytes.{front, is_white}
+use Rattle.pt_token.specs.Machine.{step, is_plain}
+
+-- How many bytes what is open goes on for, with its end. None where it has no end among these.
+unfoldable pub closing : State → List ℕ → Option ℕ
+closing s [] = None
+closing s (b ∷ bytes) = if is_plain (step s b) then Some 1 else option_map suc (closing (step s b) bytes)
+
+-- how many bytes there are to the line's end, with its line feed
+abbrev pub line : List ℕ → ℕ
+line bytes = unwrap_or (closing Line bytes) (length bytes)
+
+-- the number that digits write
+abbrev pub number : List ℕ → ℕ
+number ds = fold (λ n d. 10 * n + (d - 48)) 0 ds
+
+-- what the digits behind `/*!` say
+abbrev pub by_digits : List ℕ → Comment
+by_digits ds =
+    if length ds == 0 then Read 1
+    else (if length ds == 5 then (if nat_le (number ds) 50799 then Read 6 else Plain) else Malformed)
+
+-- what kind of a comment it is, by the bytes behind `/*`
+unfoldable pub kind : List ℕ → Comment
+kind bytes = if slice_index bytes 0 == 33 then by_digits (front Digit (drop 1 bytes)) else Plain
+
+-- the bytes behind the `/*` that belong to the opener of a comment that is read
+abbrev pub opener : Comment → ℕ
+opener (Read n) = n
+opener _ = 0
+
+abbrev pub gap_of : ℕ → Bool → Gap
+gap_of length inside = record { length = length; inside = inside }
+
+-- a comment, or the opener of one that is read, where it is closed
+abbrev pub comment_gap : Comment → Option ℕ → Option Gap
+comment_gap _ None = None
+comment_gap Plain (Some n) = Some (gap_of (n + 2) false)
+comment_gap (Read n) (Some _) = Some (gap_of (n + 2) true)
+comment_gap Malformed (Some _) = None
+
+-- `--`, and white space or the end behind it
+abbrev pub is_dashes : List ℕ → Bool
+is_dashes bytes = starts_with nat_eq bytes (codes "--") && (length bytes == 2 || is_white (slice_index bytes 2))
+
+-- what the bytes begin with, where that is white space or a comment
+abbrev pub gap_outside : List ℕ → Option Gap
+gap_outside bytes =
+    if is_white (slice_index bytes 0) then Some (gap_of 1 false)
+    else (if slice_index bytes 0 == 35 then Some (gap_of (line (drop 1 bytes) + 1) false)
+    else (if is_dashes bytes then Some (gap_of (line (drop 2 bytes) + 2) false)
+    else (if starts_with nat_eq bytes (codes "/*") then comment_gap (kind (drop 2 bytes)) (closing Opened (drop 2 bytes)) else None)))
+
+-- the same within a comment that is read: white space, or its end
+abbrev pub gap_inside : List ℕ → Option Gap
+gap_inside bytes =
+    if is_white (slice_index bytes 0) then Some (gap_of 1 true)
+    else (if starts_with nat_eq bytes (codes "*/") then Some (gap_of 2 false) else None)
+
+-- `inside` is true within a comment that is read
+unfoldable pub next_gap : Bool → List ℕ → Option Gap
+next_gap true bytes = gap_inside bytes
+next_gap false bytes = gap_outside bytes
+
+-- white space and comments, to the end
+pub data AreGaps : Bool → List ℕ → Type 0 where
+  done : {inside : Bool} → AreGaps inside []
+  more : {inside : Bool} {bytes : List ℕ} {g : Gap} → next_gap inside bytes ≡ Some g → AreGaps g.inside (drop g.length bytes) → AreGaps inside bytes
+
+-- a piece of white space and comments alone
+abbrev pub IsBlank : List ℕ → Type 0
+IsBlank piece = AreGaps false piece

@@ -1,0 +1,36 @@
+-- What holds of the definitions themselves.
+use Rattle.std.specs.Prelude.{◌≡◌, ◌↔◌, ℕ, if◌then◌else◌, is_some, List, [], ◌∷◌, ◌++◌, drop, Some}
+use Rattle.pt_token.specs.declared.state.State.TheVariants.{Plain}
+use Rattle.pt_token.specs.Ends.{EndsAreFirst}
+use Rattle.pt_token.specs.Outside.{IsCutAt}
+use Rattle.pt_token.specs.Pieces.{cut_in, pieces, pieces_after, used_by}
+use Rattle.pt_token.specs.Splitting.{next_cut, piece_after}
+use Rattle.pt_token.specs.Gap.{IsBlank}
+use Rattle.pt_token.specs.Tokens.{IsLexed}
+
+-- what one feed leaves to be read
+abbrev pub unread : List ℕ → List ℕ → List ℕ
+unread piece bytes = drop (used_by (next_cut piece bytes) bytes) bytes
+
+-- The pieces, as one feed of bytes gives them and what comes behind: the whole piece and those of the rest, or those that
+-- begin with the piece so far.
+abbrev pub fed_pieces : List ℕ → List ℕ → List ℕ → List (List ℕ)
+fed_pieces piece bytes rest =
+    if is_some (next_cut piece bytes) then piece_after piece bytes ∷ pieces (unread piece bytes ++ rest)
+    else pieces_after (piece_after piece bytes) (unread piece bytes ++ rest)
+
+-- The pieces of a script don't depend on the chunks in which its bytes are fed.
+abbrev pub FeedsGivePieces : Type 0
+FeedsGivePieces = (piece bytes rest : List ℕ) → pieces_after piece (bytes ++ rest) ≡ fed_pieces piece bytes rest
+
+-- A piece is blank exactly where it has no token and no lexical fault.
+abbrev pub BlankHasNoToken : Type 0
+BlankHasNoToken = (piece : List ℕ) → IsBlank piece ↔ IsLexed piece []
+
+-- The machine's first cut is the first `;` outside quotes and comments.
+abbrev pub CutsOutside : Type 0
+CutsOutside = (bytes : List ℕ) (place : ℕ) → (cut_in Plain bytes ≡ Some place) ↔ IsCutAt bytes place
+
+-- A line, a quote and a comment that isn't read go on up to their first ends.
+abbrev pub EndsFirst : Type 0
+EndsFirst = (bytes : List ℕ) → EndsAreFirst bytes

@@ -1,0 +1,11 @@
+pub mod Bytes
+pub mod Machine
+pub mod Pieces
+pub mod Gap
+pub mod Ends
+pub mod Outside
+pub mod Quoting
+pub mod Tokens
+pub mod Stepping
+pub mod Splitting
+pub mod Laws

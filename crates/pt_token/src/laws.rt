@@ -1,0 +1,21 @@
+ghost use Rattle.pt_token.specs.Laws.{BlankHasNoToken, CutsOutside, EndsFirst, FeedsGivePieces};
+
+/// The pieces of a script don't depend on the chunks in which its bytes are fed.
+pub fn feeds_give_pieces()
+    ensures { FeedsGivePieces }
+{}
+
+/// A piece is blank exactly where it has no token and no lexical fault.
+pub fn blank_has_no_token()
+    ensures { BlankHasNoToken }
+{}
+
+/// The machine's first cut is the first `;` outside quotes and comments.
+pub fn cuts_outside()
+    ensures { CutsOutside }
+{}
+
+/// A line, a quote and a comment that isn't read go on up to their first ends.
+pub fn ends_first()
+    ensures { EndsFirst }
+{}
