@@ -5,3 +5,4 @@ pub mod Feeding
 pub mod BlankTokens
 pub mod Cutting
 pub mod Ending
+pub mod Limits

@@ -1,9 +1,10 @@
 -- What holds of the definitions themselves.
-use Rattle.std.specs.Prelude.{◌≡◌, ◌↔◌, ℕ, if◌then◌else◌, is_some, List, [], ◌∷◌, ◌++◌, drop, Some}
+use Rattle.std.specs.Prelude.{◌≡◌, ◌↔◌, ℕ, ◌<◌, ◌≤◌, true, if◌then◌else◌, is_some, List, [], ◌∷◌, ◌++◌, length, drop, Some}
+use Rattle.std.specs.List.{list_all}
 use Rattle.pt_token.specs.declared.state.State.TheVariants.{Plain}
 use Rattle.pt_token.specs.Ends.{EndsAreFirst}
 use Rattle.pt_token.specs.Outside.{IsCutAt}
-use Rattle.pt_token.specs.Pieces.{cut_in, pieces, pieces_after, used_by}
+use Rattle.pt_token.specs.Pieces.{cut_in, cuts, fits, most_piece, most_script, pieces, pieces_after, used_by}
 use Rattle.pt_token.specs.Splitting.{next_cut, piece_after}
 use Rattle.pt_token.specs.Gap.{IsBlank}
 use Rattle.pt_token.specs.Tokens.{IsLexed}
@@ -22,6 +23,15 @@ fed_pieces piece bytes rest =
 -- The pieces of a script don't depend on the chunks in which its bytes are fed.
 abbrev pub FeedsGivePieces : Type 0
 FeedsGivePieces = (piece bytes rest : List ℕ) → pieces_after piece (bytes ++ rest) ≡ fed_pieces piece bytes rest
+
+-- A script within the limits is cut into its pieces.
+abbrev pub CutsAreAll : Type 0
+CutsAreAll = (script : List ℕ) → length script ≤ most_script → list_all fits (pieces script) ≡ true → cuts script ≡ pieces script
+
+-- Where pieces that fit were cut, and the next one is too long with the bytes that come, these pieces are the cuts.
+abbrev pub CutsEnd : Type 0
+CutsEnd = (script : List ℕ) (found : List (List ℕ)) (piece bytes rest : List ℕ) → length script ≤ most_script → list_all fits found ≡ true
+    → pieces script ≡ found ++ pieces_after piece (bytes ++ rest) → most_piece < length (piece_after piece bytes) → cuts script ≡ found
 
 -- A piece is blank exactly where it has no token and no lexical fault.
 abbrev pub BlankHasNoToken : Type 0

@@ -1,5 +1,6 @@
 -- The pieces of a script. A `;` outside quotes and comments ends a piece and belongs to none.
-use Rattle.std.specs.Prelude.{ℕ, suc, ◌+◌, ◌^◌, if◌then◌else◌, List, [], ◌∷◌, ◌++◌, length, take, Option, Some, None}
+use Rattle.std.specs.List.{take_while}
+use Rattle.std.specs.Prelude.{ℕ, suc, ◌+◌, ◌-◌, ◌^◌, Bool, nat_le, if◌then◌else◌, List, [], ◌∷◌, ◌++◌, length, take, Option, Some, None}
 use Rattle.std.specs.Option.{option_map}
 use Rattle.pt_token.specs.declared.state.State.{State}
 use Rattle.pt_token.specs.declared.state.State.TheVariants.{Plain}
@@ -32,3 +33,19 @@ pieces script = pieces_after [] script
 -- the most bytes of a piece
 abbrev pub most_piece : ℕ
 most_piece = 2 ^ 20
+
+-- the most bytes of a script
+abbrev pub most_script : ℕ
+most_script = 2 ^ 32
+
+abbrev pub fits : List ℕ → Bool
+fits piece = nat_le (length piece) most_piece
+
+-- the pieces that are closed by a cut
+abbrev pub closed : List ℕ → List (List ℕ)
+closed script = take (length (pieces script) - 1) (pieces script)
+
+-- The pieces of a script, up to the first that is too long. Of a script that is too long they are those that are closed
+-- within its limit.
+unfoldable pub cuts : List ℕ → List (List ℕ)
+cuts script = take_while fits (if nat_le (length script) most_script then pieces script else closed (take most_script script))

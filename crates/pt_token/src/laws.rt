@@ -1,8 +1,14 @@
-ghost use Rattle.pt_token.specs.Laws.{BlankHasNoToken, CutsOutside, EndsFirst, FeedsGivePieces};
+ghost use Rattle.pt_token.specs.Laws.{BlankHasNoToken, CutsAreAll, CutsEnd, CutsOutside, EndsFirst, FeedsGivePieces};
 
 /// The pieces of a script don't depend on the chunks in which its bytes are fed.
 pub fn feeds_give_pieces()
     ensures { FeedsGivePieces }
+{}
+
+/// A script is cut into its pieces, up to the first that is too long, which a feed tells.
+pub fn cuts_end()
+    ensures all { CutsAreAll }
+    ensures short { CutsEnd }
 {}
 
 /// A piece is blank exactly where it has no token and no lexical fault.

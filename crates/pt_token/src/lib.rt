@@ -21,7 +21,7 @@ mod state;
 mod token;
 
 pub use fault::LexFault;
-pub use laws::{blank_has_no_token, cuts_outside, ends_first, feeds_give_pieces};
+pub use laws::{blank_has_no_token, cuts_end, cuts_outside, ends_first, feeds_give_pieces};
 pub use lexer::tokens;
 pub use splitter::{Fed, SplitFault, Splitter};
 pub use token::{Token, TokenKind};

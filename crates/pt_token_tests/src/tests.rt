@@ -1,5 +1,8 @@
 use crate::{bytes_of, letter, pieces_of};
-use pt_token::{LexFault, SplitFault, Splitter, Token, tokens};
+use pt_token::{
+    LexFault, SplitFault, Splitter, Token, blank_has_no_token, cuts_end, cuts_outside, ends_first,
+    feeds_give_pieces, tokens,
+};
 use std::alloc::{AllocError, Global};
 use std::test::Fail;
 
@@ -226,4 +229,13 @@ fn a_piece_has_a_megabyte_at_most(rt: HostRuntime) -> Result<(), Fail> {
         Err(fault) => assert!(rt; matches!(fault, SplitFault::TooLong)),
     }
     Ok(())
+}
+
+#[test]
+fn laws_do_nothing() {
+    feeds_give_pieces();
+    cuts_outside();
+    cuts_end();
+    ends_first();
+    blank_has_no_token();
 }
