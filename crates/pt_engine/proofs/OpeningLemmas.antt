@@ -18,6 +18,7 @@ use Rattle.pt_store.specs.declared.stop.Stop.{Stop}
 use Rattle.pt_store.specs.declared.stop.Stop.TheVariants as stop
 use Rattle.pt_store.specs.declared.store.Store.{Store}
 use Rattle.pt_store.specs.Store.{IsStore}
+use Rattle.pt_store.proofs.Moments.{left_same}
 use Rattle.pt_store.proofs.Once.{left_map, left_once}
 use Rattle.pt_flat.specs.declared.data.Db.{Db}
 use Rattle.pt_table_files.specs.Holds.{Holds}
@@ -68,11 +69,13 @@ read_more files read file i e at =
 pub out_of_memory : (T P : Type 0) (e : Stop) → e ≡ stop.NoMemory → OnNoMemory {T = T} (Err e) P → P
 out_of_memory T P e is memory = subst (λ s. OnNoMemory {T = T} (Err s) P) is memory
 
-pub damage_of : (T : Type 0) (e : Stop) (ending : Ending) (files : Files) (tells : Type 0) → ending ≡ ending_of e
-    → IfBad {T = T} (Err e) (λ name place. (name ≡ whole_name) × (place ≡ 0) × (tells → (map : List (List ℕ × List ℕ)) → Left files map → ⊥)) → tells → IsDamage ending (HoldsIn files)
-damage_of T stop.NoMemory ending files tells is bad told = rw is tt
-damage_of T stop.Fault ending files tells is bad told = rw is tt
-damage_of T (stop.Bad name place) ending files tells is bad told = rw is (bad.0, bad.1, λ db held. bad.2 told held.0 held.1)
+pub damage_of : (T : Type 0) (e : Stop) (ending : Ending) (files now : Files) (tells : Type 0) → ending ≡ ending_of e
+    → IfBad {T = T} (Err e) (λ name place. (name ≡ whole_name) × (place ≡ 0) × (tells → (map : List (List ℕ × List ℕ)) → Left files map → ⊥)) → (tells → now whole_name ≡ files whole_name) → tells
+    → IsDamage ending (HoldsIn files) (HoldsIn now)
+damage_of T stop.NoMemory ending files now tells is bad same told = rw is tt
+damage_of T stop.Fault ending files now tells is bad same told = rw is tt
+damage_of T (stop.Bad name place) ending files now tells is bad same told =
+    rw is (bad.0, bad.1, (λ db held. bad.2 told held.0 held.1), (λ db held. bad.2 told held.0 (left_same held.0 now files (sym (same told)) held.1)))
 
 -- # The map that is replaced
 

@@ -40,6 +40,19 @@ entered_in_order db dir old w new is headline held =
     let run = subst (λ (u : World). HoldsIn (shown u.now.fs) db → KeepsInOrder db (statements u.input) u new) is headline held in
     record { added = run.added; grows = run.grows; each = run.each }
 
+pub entered_damage : (ending : Ending) (dir : List ℕ) (old w new : World) → w ≡ after_enter dir old → TellsDamage ending w new → TellsDamage ending old new
+entered_damage ending dir old w new is tells = go ending (subst (λ (u : World). TellsDamage ending u new) is tells)
+  where
+    go : (e : Ending) → TellsDamage e (after_enter dir old) new → TellsDamage e old new
+    go Done h = h
+    go Usage h = h
+    go DiskFault h = h
+    go NoMemory h = h
+    go (Damaged name place) h = h
+    go InputFault h = h
+    go OutputFault h = h
+    go TooLong h = h
+
 -- # No statement was answered yet
 
 none_first : (statements : List (List ℕ)) → AreFirst statements 0 []
@@ -80,26 +93,16 @@ module _ (db : Db) (statements : List (List ℕ)) where
 -- # The opening
 
 -- what stands where it stopped
-pub stands_opening : (db : Db) (ending : Ending) (before now : ℕ) (files : Files) (old new : World) → StopsOpening ending before now → IsDamage ending (HoldsIn files) → HoldsIn files db
+pub stands_opening : (db : Db) (ending : Ending) (before now : ℕ) (files later : Files) (old new : World) → StopsOpening ending before now → IsDamage ending (HoldsIn files) (HoldsIn later) → HoldsIn files db
     → new.now.said ≡ old.now.said → EachImage new.now.fs (λ files. HoldsIn files db) → StandsAt db ending old new
-stands_opening db NoMemory before now files old new stops damage held said holds = (0, stands_none db (statements old.input) old.now.said new said holds)
-stands_opening db DiskFault before now files old new stops damage held said holds = (0, keeping_none db (statements old.input) old.now.said new said holds)
-stands_opening db (Damaged name place) before now files old new stops damage held said holds = damage.2 db held
-stands_opening db Done before now files old new stops damage held said holds = absurd stops
-stands_opening db Usage before now files old new stops damage held said holds = absurd stops
-stands_opening db InputFault before now files old new stops damage held said holds = absurd stops
-stands_opening db OutputFault before now files old new stops damage held said holds = absurd stops
-stands_opening db TooLong before now files old new stops damage held said holds = absurd stops
-
-pub tells_opening : (ending : Ending) (before now : ℕ) (Held : Db → Type 0) (old new : World) → StopsOpening ending before now → IsDamage ending Held → new.now.said ≡ old.now.said → TellsDamage ending Held old new
-tells_opening NoMemory before now Held old new stops damage said = tt
-tells_opening DiskFault before now Held old new stops damage said = tt
-tells_opening (Damaged name place) before now Held old new stops damage said = (damage.0, damage.1, said, damage.2)
-tells_opening Done before now Held old new stops damage said = absurd stops
-tells_opening Usage before now Held old new stops damage said = absurd stops
-tells_opening InputFault before now Held old new stops damage said = absurd stops
-tells_opening OutputFault before now Held old new stops damage said = absurd stops
-tells_opening TooLong before now Held old new stops damage said = absurd stops
+stands_opening db NoMemory before now files later old new stops damage held said holds = (0, stands_none db (statements old.input) old.now.said new said holds)
+stands_opening db DiskFault before now files later old new stops damage held said holds = (0, keeping_none db (statements old.input) old.now.said new said holds)
+stands_opening db (Damaged name place) before now files later old new stops damage held said holds = damage.2 db held
+stands_opening db Done before now files later old new stops damage held said holds = absurd stops
+stands_opening db Usage before now files later old new stops damage held said holds = absurd stops
+stands_opening db InputFault before now files later old new stops damage held said holds = absurd stops
+stands_opening db OutputFault before now files later old new stops damage held said holds = absurd stops
+stands_opening db TooLong before now files later old new stops damage held said holds = absurd stops
 
 -- # The statements
 
@@ -144,16 +147,6 @@ stands_at db OutputFault too_long old new ends stands excess taken = stands
 stands_at db Usage too_long old new ends stands excess taken = absurd ends
 stands_at db (Damaged name place) too_long old new ends stands excess taken = absurd ends
 stands_at db InputFault too_long old new ends stands excess taken = absurd ends
-
-pub tells_held : (ending : Ending) (too_long : Bool) (Held : Db → Type 0) (db : Db) (old new : World) → EndsTaken ending too_long → Held db → TellsDamage ending Held old new
-tells_held Done too_long Held db old new ends held = (db, held)
-tells_held TooLong too_long Held db old new ends held = (db, held)
-tells_held NoMemory too_long Held db old new ends held = tt
-tells_held DiskFault too_long Held db old new ends held = tt
-tells_held OutputFault too_long Held db old new ends held = (db, held)
-tells_held Usage too_long Held db old new ends held = absurd ends
-tells_held (Damaged name place) too_long Held db old new ends held = absurd ends
-tells_held InputFault too_long Held db old new ends held = absurd ends
 
 -- # The directory is opened, and then the input taken
 

@@ -1,13 +1,14 @@
 -- What a run says and leaves, by the words of the command line and what it began with.
 use Rattle.std.specs.Prelude.{◌≡◌, ◌⊎◌, ℕ, Bool, true, false, cond, List, [], ◌∷◌, length, codes, Option, Some, None}
 use Rattle.std.specs.Str.{bytes_eq}
+use Rattle.pt_host.specs.Disk.{shown}
 use Rattle.pt_host.specs.World.{World}
 use Rattle.pt_store.specs.Left.{whole_name}
 use Rattle.pt_flat.specs.declared.data.Db.{Db}
 use Rattle.pt_engine.specs.declared.ending.Ending.{Ending}
 use Rattle.pt_engine.specs.declared.ending.Ending.TheVariants.{Done, Usage, DiskFault, NoMemory, Damaged, InputFault, OutputFault, TooLong}
 use Rattle.pt_engine.specs.Script.{has_excess, statements}
-use Rattle.pt_engine.specs.Kept.{StandsAfter, StandsKeeping, StandsSaying}
+use Rattle.pt_engine.specs.Kept.{HoldsIn, StandsAfter, StandsKeeping, StandsSaying}
 
 -- The word DIR of `run DIR`, which is the one form of words.
 abbrev pub dir_of : List (List ℕ) → Option (List ℕ)
@@ -39,17 +40,19 @@ StandsAt db OutputFault old new = (k : ℕ) × StandsSaying db (statements old.i
 StandsAt db Usage old new = new ≡ old
 StandsAt db (Damaged name place) old new = ⊥
 
--- Damage is told of `whole.map` at its first byte, with nothing printed, exactly where the directory held no database: but
--- for words of no form only want of memory and a fault of the directory come before it.
-abbrev pub TellsDamage : Ending → (Db → Type 0) → World → World → Type 0
-TellsDamage (Damaged name place) Held old new = (name ≡ whole_name) × (place ≡ 0) × (new.now.said ≡ old.now.said) × ((db : Db) → Held db → ⊥)
-TellsDamage Done Held old new = (db : Db) × Held db
-TellsDamage TooLong Held old new = (db : Db) × Held db
-TellsDamage InputFault Held old new = (db : Db) × Held db
-TellsDamage OutputFault Held old new = (db : Db) × Held db
-TellsDamage NoMemory Held old new = Unit {0}
-TellsDamage DiskFault Held old new = Unit {0}
-TellsDamage Usage Held old new = Unit {0}
+-- Damage is told of `whole.map` at its first byte, with nothing printed, exactly where the directory held no database, and the
+-- files as they read then hold none either. But for words of no form only want of memory and a fault of the directory come
+-- before it.
+abbrev pub TellsDamage : Ending → World → World → Type 0
+TellsDamage (Damaged name place) old new =
+    (name ≡ whole_name) × (place ≡ 0) × (new.now.said ≡ old.now.said) × ((db : Db) → HoldsIn (shown old.now.fs) db → ⊥) × ((db : Db) → HoldsIn (shown new.now.fs) db → ⊥)
+TellsDamage Done old new = (db : Db) × HoldsIn (shown old.now.fs) db
+TellsDamage TooLong old new = (db : Db) × HoldsIn (shown old.now.fs) db
+TellsDamage InputFault old new = (db : Db) × HoldsIn (shown old.now.fs) db
+TellsDamage OutputFault old new = (db : Db) × HoldsIn (shown old.now.fs) db
+TellsDamage NoMemory old new = Unit {0}
+TellsDamage DiskFault old new = Unit {0}
+TellsDamage Usage old new = Unit {0}
 
 -- Where no count rose, want of memory alone keeps a run from its end.
 abbrev pub IsComplete : Bool → Ending → Type 0

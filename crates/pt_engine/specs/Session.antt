@@ -28,16 +28,17 @@ pub record IsOpened (old new : World) (session : Session) : Type 0 where
   pub held : HoldsIn (shown old.now.fs) session.db
   pub stands : IsSession session new
 
--- Why a session isn't opened. Damage is told only where the directory held no database.
+-- Why a session isn't opened.
 abbrev pub StopsOpening : Ending → ℕ → ℕ → Type 0
 StopsOpening NoMemory before now = now ≡ before
 StopsOpening DiskFault before now = (before ≤ now) × Rose before now
 StopsOpening (Damaged name place) before now = now ≡ before
 StopsOpening _ before now = ⊥
 
-abbrev pub IsDamage : Ending → (Db → Type 0) → Type 0
-IsDamage (Damaged name place) Held = (name ≡ whole_name) × (place ≡ 0) × ((db : Db) → Held db → ⊥)
-IsDamage _ Held = Unit {0}
+-- Damage is told of `whole.map` at its first byte, and only where the directory held no database before and holds none now.
+abbrev pub IsDamage : Ending → (Db → Type 0) → (Db → Type 0) → Type 0
+IsDamage (Damaged name place) Held Holding = (name ≡ whole_name) × (place ≡ 0) × ((db : Db) → Held db → ⊥) × ((db : Db) → Holding db → ⊥)
+IsDamage _ Held Holding = Unit {0}
 
 -- Within one statement: the database before it with nothing of its answer said, or the one after it with a part of it said.
 abbrev pub IsWithin : Db → Db → List ℕ → List ℕ → List ℕ → Files → Type 0

@@ -31,7 +31,7 @@ pub fn run<H: Host>(alloc: Global, words: &Vec<String>, host: &mut H) -> Ending
     // The causes of the other endings.
     ensures counts { NeverFall (counts_of H.disk_faults H.in_faults H.out_faults host.old) (counts_of H.disk_faults H.in_faults H.out_faults host.new) }
     ensures causes { IsCaused (counts_of H.disk_faults H.in_faults H.out_faults host.old) (counts_of H.disk_faults H.in_faults H.out_faults host.new) result }
-    ensures damage { result ≢ Ending.Usage → H.tells → TellsDamage result (HoldsIn (shown (H.world host.old).now.fs)) (H.world host.old) (H.world host.new) }
+    ensures damage { result ≢ Ending.Usage → H.tells → TellsDamage result (H.world host.old) (H.world host.new) }
     ensures complete { (db : Db) → result ≢ Ending.Usage → H.tells → HoldsIn (shown (H.world host.old).now.fs) db → NoneRose (counts_of H.disk_faults H.in_faults H.out_faults host.old) (counts_of H.disk_faults H.in_faults H.out_faults host.new) → IsComplete (has_excess (H.world host.old).input) result }
 
     // The directory that is entered.
@@ -57,7 +57,7 @@ fn run_in<H: Host>(alloc: Global, dir: &str, host: &mut H) -> Ending
     ensures formed { result ≢ Ending.Usage }
     ensures counts { NeverFall (counts_of H.disk_faults H.in_faults H.out_faults host.old) (counts_of H.disk_faults H.in_faults H.out_faults host.new) }
     ensures causes { IsCaused (counts_of H.disk_faults H.in_faults H.out_faults host.old) (counts_of H.disk_faults H.in_faults H.out_faults host.new) result }
-    ensures damage { H.tells → TellsDamage result (HoldsIn (shown (H.world host.old).now.fs)) (H.world host.old) (H.world host.new) }
+    ensures damage { H.tells → TellsDamage result (H.world host.old) (H.world host.new) }
     ensures dir { H.tells → ((H.world host.new).dir ≡ None) ⊎ ((H.world host.new).dir ≡ Some dir.now) }
     ensures headline { (db : Db) → H.tells → HoldsIn (shown (H.world host.old).now.fs) db → KeepsInOrder db (statements (H.world host.old).input) (H.world host.old) (H.world host.new) }
     ensures stands { (db : Db) → H.tells → HoldsIn (shown (H.world host.old).now.fs) db → StandsAt db result (H.world host.old) (H.world host.new) }
@@ -75,7 +75,7 @@ fn run_entered<H: Host>(alloc: Global, host: &mut H) -> Ending
     ensures formed { result ≢ Ending.Usage }
     ensures counts { NeverFall (counts_of H.disk_faults H.in_faults H.out_faults host.old) (counts_of H.disk_faults H.in_faults H.out_faults host.new) }
     ensures causes { IsCaused (counts_of H.disk_faults H.in_faults H.out_faults host.old) (counts_of H.disk_faults H.in_faults H.out_faults host.new) result }
-    ensures damage { H.tells → TellsDamage result (HoldsIn (shown (H.world host.old).now.fs)) (H.world host.old) (H.world host.new) }
+    ensures damage { H.tells → TellsDamage result (H.world host.old) (H.world host.new) }
     ensures dir { H.tells → (H.world host.new).dir ≡ (H.world host.old).dir }
     ensures headline { (db : Db) → H.tells → HoldsIn (shown (H.world host.old).now.fs) db → KeepsInOrder db (statements (H.world host.old).input) (H.world host.old) (H.world host.new) }
     ensures stands { (db : Db) → H.tells → HoldsIn (shown (H.world host.old).now.fs) db → StandsAt db result (H.world host.old) (H.world host.new) }

@@ -36,7 +36,7 @@ impl Session {
         ensures opened { IfOk result (λ session. H.tells → IsOpened (H.world host.old) (H.world host.new) session) }
         ensures left { H.tells → (files : Listed (Listed ℕ × Listed ℕ)) → EachImage (H.world host.old).now.fs (IsLeft files) → IsQuiet (H.world host.old) (H.world host.new) (IsLeft files) }
         ensures quiet { H.tells → IsQuiet (H.world host.old) (H.world host.new) (λ directory. ⊤) }
-        ensures damage { IfErr result (λ ending. H.tells → IsDamage ending (HoldsIn (shown (H.world host.old).now.fs))) }
+        ensures damage { IfErr result (λ ending. H.tells → IsDamage ending (HoldsIn (shown (H.world host.old).now.fs)) (HoldsIn (shown (H.world host.new).now.fs))) }
         ensures stops { IfErr result (λ ending. StopsOpening ending (H.disk_faults host.old) (H.disk_faults host.new)) }
         ensures kept { OnOk result (H.disk_faults host.new ≡ H.disk_faults host.old) }
         ensures input { H.in_faults host.new ≡ H.in_faults host.old }

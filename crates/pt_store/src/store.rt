@@ -1,9 +1,10 @@
-ghost use Rattle.std.specs.Prelude.{◌≡◌, ℕ, false, List as Listed, length, map, Some, IfOk, OnOk, IsSome, IsTrue, Contains, slice_get, ⊤};
+ghost use Rattle.std.specs.Prelude.{◌≡◌, ℕ, false, List as Listed, length, map, Some, IfOk, OnOk, IsSome, IsTrue, Contains, slice_get};
 ghost use Rattle.std.specs.Option.{option_map};
 ghost use Rattle.pt_host.specs.Disk.{EachImage, IsAtRest, shown};
 ghost use Rattle.pt_host.specs.Listed.{AreRising, by_name};
 ghost use Rattle.pt_host.specs.World.{World, IsQuiet};
-ghost use Rattle.pt_store.specs.Left.{whole_name, serials_name, Left, IsLeft, IsEither};
+ghost use Rattle.pt_host.specs.Replacement.{AsBeforeBut};
+ghost use Rattle.pt_store.specs.Left.{whole_name, shadow_name, serials_name, Left, IsLeft, IsEither};
 ghost use Rattle.pt_store.specs.Stops.{Counts, IfBad, OnFault, OnNoMemory};
 ghost use Rattle.pt_store.specs.Entries.{length_in};
 ghost use Rattle.pt_store.specs.Store.{IsStore, IsStanding, is_live, sizes, sizes_of};
@@ -38,8 +39,8 @@ impl Store {
         ensures stands { IfOk result (λ store. H.tells → (files : Listed (Listed ℕ × Listed ℕ)) × EachImage (H.world host.old).now.fs (IsLeft files) × IsStore store files (H.world host.new)) }
         // At every moment, whatever is answered, the directory stands for that map.
         ensures left { H.tells → (files : Listed (Listed ℕ × Listed ℕ)) → EachImage (H.world host.old).now.fs (IsLeft files) → IsQuiet (H.world host.old) (H.world host.new) (IsLeft files) }
-        // At every moment, also where the directory stands for no map, nothing is entered, taken or said.
-        ensures quiet { H.tells → IsQuiet (H.world host.old) (H.world host.new) (λ directory. ⊤) }
+        // At every moment, also where the directory stands for no map, no other file than the shadow has changed.
+        ensures quiet { H.tells → IsQuiet (H.world host.old) (H.world host.new) (AsBeforeBut (H.world host.old).now.fs shadow_name) }
         ensures bad { IfBad result (λ name place. (name ≡ whole_name) × (place ≡ 0) × (H.tells → (files : Listed (Listed ℕ × Listed ℕ)) → Left (shown (H.world host.old).now.fs) files → ⊥)) }
         ensures live { IfOk result (λ store. IsTrue (is_live store)) }
         ensures serials { IfOk result (λ store. IsSome (length_in (sizes store) serials_name)) }

@@ -12,7 +12,7 @@ returns-in-Err-clause-headline g c db tells held =
 pub returns-in-Err-clause-stands : goal.returns-in-Err-clause-stands
 returns-in-Err-clause-stands g c db tells held =
     let quiet = opened_quiet db _ _ (c.requires.at_rest tells) held (c.in-Err.ensures.left tells held.0) in
-    stands_opening db c.in-Err.ending _ _ (shown (g.H.Host.world c.args.host.now).now.fs) _ _ c.in-Err.ensures.stops (c.in-Err.ensures.damage tells) held quiet.said quiet.now
+    stands_opening db c.in-Err.ending _ _ (shown (g.H.Host.world c.args.host.now).now.fs) (shown (g.H.Host.world c.begin.new.host).now.fs) _ _ c.in-Err.ensures.stops (c.in-Err.ensures.damage tells) held quiet.said quiet.now
 
 pub returns-in-Err-take_script-clause-headline : goal.returns-in-Err-take_script-clause-headline
 returns-in-Err-take_script-clause-headline g c db tells held =

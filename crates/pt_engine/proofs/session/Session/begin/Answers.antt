@@ -4,6 +4,7 @@ use Rattle.pt_host.specs.Disk.{shown}
 use Rattle.pt_host.proofs.Shown.{shown_has}
 use Rattle.pt_host.proofs.Runs.{quiet_then, quiet_weaken}
 use Rattle.pt_store.specs.Left.{IsLeft}
+use Rattle.pt_store.proofs.Moments.{whole_kept}
 use Rattle.pt_table_files.specs.Holds.{Holds}
 use Rattle.pt_store.specs.declared.store.Store.{Store}
 use Rattle.pt_engine.proofs.OpeningLemmas.{damage_of, opened_left, holds_none, some_held, none_held}
@@ -12,7 +13,9 @@ use Rattle.pt_engine.proofs.session.Session.begin.Goals as goal
 pub returns-in_err-store-clause-damage : goal.returns-in_err-store-clause-damage
 returns-in_err-store-clause-damage g c =
     let p = err_from_is_err_and c.from_residual.result c.from_residual.ensures.1 in
-    rw p.1 (damage_of Store c.in_err-store.field-0.0 p.0 (shown (g.H.Host.world c.args.host.now).now.fs) g.H.Host.tells p.2 c.in_err-store.ensures.bad)
+    rw p.1
+    (damage_of Store c.in_err-store.field-0.0 p.0 (shown (g.H.Host.world c.args.host.now).now.fs) (shown (g.H.Host.world c.attach.new.host).now.fs) g.H.Host.tells p.2 c.in_err-store.ensures.bad
+    (λ tells. whole_kept _ _ (g.met.H.Host.sound c.attach.new.host tells) (c.requires.at_rest tells) (c.in_err-store.ensures.quiet tells)))
 
 pub returns-in_err-files-clause-left : goal.returns-in_err-files-clause-left
 returns-in_err-files-clause-left g c tells files left =
@@ -32,11 +35,13 @@ returns-in-None-clause-left g c tells files left =
 pub returns-in-None-clause-damage : goal.returns-in-None-clause-damage
 returns-in-None-clause-damage g c tells =
     let s = c.in_ok-store.ensures.stands tells in
+    let is = c.in_ok-files.ensures.read tells s.0 s.2 in
+    let none = none_held c.in_ok-database_of.field-0 c.in_ok-files.files c.in-None.is c.in_ok-database_of.ensures.none in
     rw c.damaged.ensures (
       refl,
       refl,
-      holds_none (g.H.Host.world c.args.host.now) s.0 c.in_ok-files.files (g.met.H.Host.sound c.args.host.now tells) s.1 (c.in_ok-files.ensures.read tells s.0 s.2)
-          (none_held c.in_ok-database_of.field-0 c.in_ok-files.files c.in-None.is c.in_ok-database_of.ensures.none),
+      holds_none (g.H.Host.world c.args.host.now) s.0 c.in_ok-files.files (g.met.H.Host.sound c.args.host.now tells) s.1 is none,
+      holds_none (g.H.Host.world c.read_all.new.host) s.0 c.in_ok-files.files (g.met.H.Host.sound c.read_all.new.host tells) (c.in_ok-files.ensures.stands tells s.0 s.2).left is none,
     )
 
 pub returns-in-Some-clause-opened : goal.returns-in-Some-clause-opened
@@ -57,19 +62,22 @@ returns-in-Some-clause-left g c tells files left =
 pub returns-in_err-files-clause-quiet : goal.returns-in_err-files-clause-quiet
 returns-in_err-files-clause-quiet g c tells =
     let s = c.in_ok-store.ensures.stands tells in
-    quiet_then _ _ _ _ (c.in_ok-store.ensures.quiet tells) (quiet_weaken _ _ _ _ (λ files left. tt) (c.in_err-files.ensures.left tells s.0 s.2))
+    quiet_then _ _ _ (λ directory. Unit {0}) (quiet_weaken _ _ _ _ (λ files p. tt) (c.in_ok-store.ensures.quiet tells)) (quiet_weaken _ _ _ _ (λ files left. tt) (c.in_err-files.ensures.left tells s.0 s.2))
 
 pub returns-in_err-database_of-clause-quiet : goal.returns-in_err-database_of-clause-quiet
 returns-in_err-database_of-clause-quiet g c tells =
     let s = c.in_ok-store.ensures.stands tells in
-    quiet_then _ _ _ _ (c.in_ok-store.ensures.quiet tells) (quiet_weaken _ _ _ _ (λ files left. tt) (c.in_ok-files.ensures.left tells s.0 s.2))
+    quiet_then _ _ _ (λ directory. Unit {0}) (quiet_weaken _ _ _ _ (λ files p. tt) (c.in_ok-store.ensures.quiet tells)) (quiet_weaken _ _ _ _ (λ files left. tt) (c.in_ok-files.ensures.left tells s.0 s.2))
 
 pub returns-in-None-clause-quiet : goal.returns-in-None-clause-quiet
 returns-in-None-clause-quiet g c tells =
     let s = c.in_ok-store.ensures.stands tells in
-    quiet_then _ _ _ _ (c.in_ok-store.ensures.quiet tells) (quiet_weaken _ _ _ _ (λ files left. tt) (c.in_ok-files.ensures.left tells s.0 s.2))
+    quiet_then _ _ _ (λ directory. Unit {0}) (quiet_weaken _ _ _ _ (λ files p. tt) (c.in_ok-store.ensures.quiet tells)) (quiet_weaken _ _ _ _ (λ files left. tt) (c.in_ok-files.ensures.left tells s.0 s.2))
 
 pub returns-in-Some-clause-quiet : goal.returns-in-Some-clause-quiet
 returns-in-Some-clause-quiet g c tells =
     let s = c.in_ok-store.ensures.stands tells in
-    quiet_then _ _ _ _ (c.in_ok-store.ensures.quiet tells) (quiet_weaken _ _ _ _ (λ files left. tt) (c.in_ok-files.ensures.left tells s.0 s.2))
+    quiet_then _ _ _ (λ directory. Unit {0}) (quiet_weaken _ _ _ _ (λ files p. tt) (c.in_ok-store.ensures.quiet tells)) (quiet_weaken _ _ _ _ (λ files left. tt) (c.in_ok-files.ensures.left tells s.0 s.2))
+
+pub returns-in_err-store-clause-quiet : goal.returns-in_err-store-clause-quiet
+returns-in_err-store-clause-quiet g c tells = quiet_weaken _ _ _ _ (λ files p. tt) (c.in_err-store.ensures.quiet tells)

@@ -1,6 +1,6 @@
 use Rattle.std.proofs.Common.{◌≡◌, List, ℕ}
 use Rattle.std.proofs.lemmas.Result.{err_from_is_err_and}
-use Rattle.pt_host.proofs.Runs.{image_then, quiet_weaken, quiet_then}
+use Rattle.pt_host.proofs.Runs.{image_then}
 use Rattle.pt_host.specs.Disk.{shown}
 use Rattle.pt_store.specs.declared.entry.Entry.{Entry}
 use Rattle.pt_store.specs.declared.store.Store.{Store}
@@ -40,17 +40,11 @@ pub returns-clause-left : goal.returns-clause-left
 returns-clause-left g c = λ tells files left.
     image_then _ _ _ _ (but_left _ _ files left (c.in_ok-clear_shadow.ensures.quiet tells)) (c.in_ok-entries.ensures.quiet tells)
 
-pub returns-in_err-clear_shadow-clause-quiet : goal.returns-in_err-clear_shadow-clause-quiet
-returns-in_err-clear_shadow-clause-quiet g c = λ tells. quiet_weaken _ _ _ _ (λ files p. tt) (c.in_err-clear_shadow.ensures.quiet tells)
-
 pub returns-in_err-entries-clause-quiet : goal.returns-in_err-entries-clause-quiet
-returns-in_err-entries-clause-quiet g c = λ tells.
-    quiet_then _ _ _ _ (quiet_weaken _ _ _ _ (λ files p. tt) (c.in_ok-clear_shadow.ensures.quiet tells)) (quiet_weaken _ _ _ _ (λ files p. tt) (c.in_err-entries.ensures.quiet tells))
+returns-in_err-entries-clause-quiet g c = λ tells. image_then _ _ _ _ (c.in_ok-clear_shadow.ensures.quiet tells) (c.in_err-entries.ensures.quiet tells)
 
 pub returns-in_err-add_serials-clause-quiet : goal.returns-in_err-add_serials-clause-quiet
-returns-in_err-add_serials-clause-quiet g c = λ tells.
-    quiet_then _ _ _ _ (quiet_weaken _ _ _ _ (λ files p. tt) (c.in_ok-clear_shadow.ensures.quiet tells)) (quiet_weaken _ _ _ _ (λ files p. tt) (c.in_ok-entries.ensures.quiet tells))
+returns-in_err-add_serials-clause-quiet g c = λ tells. image_then _ _ _ _ (c.in_ok-clear_shadow.ensures.quiet tells) (c.in_ok-entries.ensures.quiet tells)
 
 pub returns-clause-quiet : goal.returns-clause-quiet
-returns-clause-quiet g c = λ tells.
-    quiet_then _ _ _ _ (quiet_weaken _ _ _ _ (λ files p. tt) (c.in_ok-clear_shadow.ensures.quiet tells)) (quiet_weaken _ _ _ _ (λ files p. tt) (c.in_ok-entries.ensures.quiet tells))
+returns-clause-quiet g c = λ tells. image_then _ _ _ _ (c.in_ok-clear_shadow.ensures.quiet tells) (c.in_ok-entries.ensures.quiet tells)
