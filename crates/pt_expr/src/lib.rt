@@ -1,0 +1,7 @@
+//! Expressions.
+#![tactic(auto)]
+
+mod found;
+mod kind;
+
+pub use kind::{CheckFault, ExprKind};
