@@ -79,6 +79,9 @@ is_literal _ = false
 
 -- ---- nodes without parts
 
+abbrev pub number_finding : ℤ → Finding
+number_finding n = after (narrow (unsigned_abs n)) (λ bound. Ok (record { shape = shape.Number; bound = bound }))
+
 abbrev pub text_shape : Option ℤ → Shape
 text_shape (Some day) = shape.DayText
 text_shape None = shape.OtherText
@@ -142,8 +145,11 @@ abbrev pub day_part : ℕ → Shape → Finding
 day_part bound shape.OtherText = Err BadDate
 day_part bound shape = if may_be_day shape then Ok (wide bound) else Err Mismatch
 
+abbrev pub absolute : Found → Finding
+absolute part = if may_be_wide part.shape then Ok (wide part.bound) else Err Mismatch
+
 abbrev pub call_finding : Func → Found → Finding
-call_finding func.Abs part = if may_be_wide part.shape then Ok (wide part.bound) else Err Mismatch
+call_finding func.Abs part = absolute part
 call_finding func.Year part = day_part 9999 part.shape
 call_finding func.Month part = day_part 12 part.shape
 call_finding func.DayOfMonth part = day_part 31 part.shape
@@ -161,7 +167,7 @@ beside op part = after part (λ found. Ok (op, found))
 
 -- a node, from what its parts are found to be
 abbrev pub finding_step : List Column → Expr-F Finding → Finding
-finding_step columns (Expr-F.Number n) = after (narrow (unsigned_abs n)) (λ bound. Ok (record { shape = shape.Number; bound = bound }))
+finding_step columns (Expr-F.Number n) = number_finding n
 finding_step columns (Expr-F.Text bytes) = Ok (other (text_shape (spelled_day bytes)))
 finding_step columns (Expr-F.Hex bytes) = Ok (other shape.Bytes)
 finding_step columns (Expr-F.Date day) = date_finding day

@@ -5,3 +5,4 @@ pub mod FoundCond
 pub mod Values
 pub mod Truths
 pub mod Laws
+pub mod Stepping
