@@ -1,2 +1,4 @@
 pub mod Spelling
+pub mod Gathering
 pub mod Parts
+pub mod Compared

@@ -1,5 +1,5 @@
 -- Sums and products part by part.
-use Rattle.std.proofs.Common.{◌≡◌, ℕ, ◌+◌, ◌<◌, ◌≤◌, Bool, true, false, List, [], ◌∷◌, length, drop, get_or, map, Option, Some, None, Result, Ok, Err, refl, sym, ap, ◌∙◌, arith}
+use Rattle.std.proofs.Common.{◌≡◌, ℕ, ◌+◌, ◌<◌, ◌≤◌, Bool, true, false, List, [], ◌∷◌, length, drop, get_or, map, Option, Some, None, Ok, Err, refl, sym, ap, ◌∙◌, arith}
 use Rattle.std.specs.Prelude.{◌^◌, ◌&&◌, if◌then◌else◌, nat_lt, fold}
 use Rattle.std.specs.List.{list_all}
 use Rattle.std.proofs.lemmas.List.{at_drop_more, at_drop_all}
@@ -16,6 +16,7 @@ use Rattle.pt_expr.specs.declared.kind.CheckFault.TheVariants.{Mismatch, TooWide
 use Rattle.pt_expr.specs.declared.found.Found.{Found}
 use Rattle.pt_expr.specs.declared.running.Running.{Running}
 use Rattle.pt_expr.specs.Found.{Finding, after, all_found, beside, bound_after, finding, finding_step, may_be_wide, narrow, product_bound, product_finding, sum_finding, takes, wide}
+use Rattle.pt_expr.proofs.Gathering.{after-same, gather}
 use Rattle.pt_expr.specs.Stepping.{begun, ended, plus_bound, plus_part, product_rest, sum_rest, times_bound, times_part}
 
 -- ---- the steps of a loop
@@ -126,7 +127,7 @@ times_step : (m : Bool) (n : ℕ) (parts : List (Op × Found)) (t : Bool)
     → ended (fold times_pair (record { matches = m; bound = Some n }) parts) ≡ multiplied m n parts
     → ended (fold times_pair (record { matches = m; bound = if t then Some n else None }) parts)
     ≡ (if m && list_all (λ part. takes part.0 part.1) parts
-        then after (after (if t then Ok n else Err TooWide) (λ (next : ℕ). product_bound next parts)) (λ bound. Ok (wide bound)) else Err Mismatch)
+    then after (after (if t then Ok n else Err TooWide) (λ (next : ℕ). product_bound next parts)) (λ bound. Ok (wide bound)) else Err Mismatch)
 unfolding multiplied
 times_step m n parts true more = more
 times_step m n parts false more = times_none m parts
@@ -139,15 +140,6 @@ times_all true b (part ∷ parts) =
     times_step (takes part.0 part.1) (bound_after b part.0 part.1.bound) parts (nat_lt (bound_after b part.0 part.1.bound) (2 ^ 126)) (times_all (takes part.0 part.1) (bound_after b part.0 part.1.bound) parts)
 
 -- ---- parts that are found one by one
-
-again : {A : Type 0} (rest : Result (List A) CheckFault) (x : A) (g : List A → Finding) → after rest (λ xs. g (x ∷ xs)) ≡ after (after rest (λ xs. Ok (x ∷ xs))) g
-again (Ok xs) x g = refl
-again (Err fault) x g = refl
-
-gather : {A : Type 0} (r : Result A CheckFault) (rest : Result (List A) CheckFault) (k : A → Finding) (g : List A → Finding)
-    → ((x : A) → k x ≡ after rest (λ xs. g (x ∷ xs))) → after r k ≡ after (after r (λ x. after rest (λ xs. Ok (x ∷ xs)))) g
-gather (Ok x) rest k g h = h x ∙ again rest x g
-gather (Err fault) rest k g h = refl
 
 sum_gathered : (columns : List Column) (run : Running) (parts : List (Bool × Expr))
     → sum_rest columns run parts ≡ after (all_found (map (λ (part : Bool × Finding). part.1) (map (λ (part : Bool × Expr). (part.0, finding columns part.1)) parts))) (λ founds. ended (fold plus_part run founds))
@@ -173,10 +165,6 @@ product_gathered columns run (part ∷ parts) =
 
 -- ---- whole sums and products
 
-after-same : {A B : Type 0} (r : Result A CheckFault) (f g : A → Result B CheckFault) → ((x : A) → f x ≡ g x) → after r f ≡ after r g
-after-same (Ok x) f g h = h x
-after-same (Err fault) f g h = refl
-
 pub sum_whole : (columns : List Column) (expr : Expr) (parts : List (Bool × Expr)) → expr ≡ tree.Sum parts → sum_rest columns (begun (wide 0)) parts ≡ finding columns expr
 unfolding summed total
 sum_whole columns expr parts is =
@@ -190,6 +178,6 @@ unfolding multiplied
 product_whole columns expr first parts found is here =
     product_gathered columns (begun found) parts
     ∙ after-same (all_found (map (λ (part : Op × Finding). beside part.0 part.1) (map (λ (part : Op × Expr). (part.0, finding columns part.1)) parts))) _ (product_finding found)
-        (λ founds. times_all (may_be_wide found.shape) found.bound founds)
+    (λ founds. times_all (may_be_wide found.shape) found.bound founds)
     ∙ ap (λ (r : Finding). after r (λ found. after (all_found (map (λ (part : Op × Finding). beside part.0 part.1) (map (λ (part : Op × Expr). (part.0, finding columns part.1)) parts))) (product_finding found))) here
     ∙ sym (ap (finding columns) is ∙ ap (finding columns) (sym (rolls-Product first parts)) ∙ fold-roll-Expr Finding (finding_step columns) (Expr-F.Product first parts))

@@ -1,12 +1,16 @@
 -- In the shape of the code: sums, products and operands part by part. Nothing public cites these.
-use Rattle.std.specs.Prelude.{ℕ, ◌+◌, ◌^◌, Bool, ◌&&◌, nat_lt, if◌then◌else◌, List, [], ◌∷◌, Option, Some, None, Ok, Err}
+use Rattle.std.specs.Prelude.{ℕ, ◌+◌, ◌^◌, Bool, true, false, ◌&&◌, ◌||◌, nat_lt, if◌then◌else◌, List, [], ◌∷◌, Option, Some, None, Result, Ok, Err}
 use Rattle.pt_ast.specs.declared.table.Column.{Column}
 use Rattle.pt_ast.specs.declared.tree.Op.{Op}
 use Rattle.pt_ast.specs.declared.tree.Expr.{Expr}
-use Rattle.pt_expr.specs.declared.kind.CheckFault.TheVariants.{Mismatch, TooWide}
+use Rattle.pt_expr.specs.declared.kind.CheckFault.{CheckFault}
+use Rattle.pt_expr.specs.declared.kind.CheckFault.TheVariants.{Mismatch, TooWide, BadDate}
+use Rattle.pt_expr.specs.declared.found.Shape.{Shape}
 use Rattle.pt_expr.specs.declared.found.Found.{Found}
 use Rattle.pt_expr.specs.declared.running.Running.{Running}
-use Rattle.pt_expr.specs.Found.{Finding, after, bound_after, finding, may_be_wide, takes, wide}
+use Rattle.pt_expr.specs.declared.operands.Operands.{Operands}
+use Rattle.pt_expr.specs.Found.{Finding, after, bound_after, finding, may_be_wide, may_be_day, may_be_bytes, takes, wide}
+use Rattle.pt_expr.specs.FoundCond.{Verdict, is_day, is_other_text}
 
 -- a bound below 2^126
 abbrev pub narrowed : ℕ → Option ℕ
@@ -44,3 +48,30 @@ sum_rest columns run (part ∷ parts) = after (finding columns part.1) (λ found
 unfoldable pub product_rest : List Column → Running → List (Op × Expr) → Finding
 product_rest columns run [] = ended run
 product_rest columns run (part ∷ parts) = after (finding columns part.1) (λ found. product_rest columns (times_part run part.0 found) parts)
+
+-- ---- operands that are compared
+
+abbrev pub no_operands : Operands
+no_operands = record { is_date = false; is_bad = false; wide = true; day = true; bytes = true }
+
+abbrev pub with_operand : Operands → Shape → Operands
+with_operand operands shape = record {
+  is_date = operands.is_date || is_day shape;
+  is_bad = operands.is_bad || is_other_text shape;
+  wide = operands.wide && may_be_wide shape;
+  day = operands.day && may_be_day shape;
+  bytes = operands.bytes && may_be_bytes shape;
+}
+
+abbrev pub compared_verdict : Operands → Verdict
+compared_verdict operands =
+    if operands.is_date && operands.is_bad then Err BadDate
+    else (if operands.wide || operands.day || operands.bytes then Ok tt else Err Mismatch)
+
+abbrev pub operands_after : List Column → Operands → Expr → Result Operands CheckFault
+operands_after columns operands expr = after (finding columns expr) (λ found. Ok (with_operand operands found.shape))
+
+-- what comes of operands with these still to come
+unfoldable pub operands_rest : List Column → Operands → List Expr → Verdict
+operands_rest columns operands [] = compared_verdict operands
+operands_rest columns operands (expr ∷ exprs) = after (operands_after columns operands expr) (λ next. operands_rest columns next exprs)

@@ -48,11 +48,7 @@ impl Shape {
     {
         match self {
             Shape::Null | Shape::Day | Shape::DayText => true,
-            Shape::Number
-            | Shape::Signed
-            | Shape::Wide
-            | Shape::OtherText
-            | Shape::Bytes => false,
+            Shape::Number | Shape::Signed | Shape::Wide | Shape::OtherText | Shape::Bytes => false,
         }
     }
 

@@ -1,12 +1,16 @@
 //! Expressions.
 #![tactic(auto)]
 
-
 mod columns;
 mod found;
 mod kind;
+mod laws;
+mod operands;
 mod running;
 mod typing;
+mod typing_cond;
 
-pub use typing::check;
 pub use kind::{CheckFault, ExprKind};
+pub use laws::spelled_days;
+pub use typing::check;
+pub use typing_cond::check_cond;

@@ -2,8 +2,8 @@ ghost use Rattle.std.specs.Prelude.{◌≡◌, ◌*◌, ◌-◌, Some, None, opt
 ghost use Rattle.pt_expr.specs.Found.{Finding, bound_after, takes, wide};
 ghost use Rattle.pt_expr.specs.Stepping.{begun, ended, narrowed, plus_bound, plus_part, times_bound, times_part};
 
-use crate::found::Found;
 use crate::CheckFault;
+use crate::found::Found;
 use pt_ast::Op;
 
 /// A sum or a product, as far as its parts were found.

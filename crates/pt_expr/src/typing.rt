@@ -5,10 +5,10 @@ ghost use Rattle.pt_expr.specs.Spelled.{spelled_day};
 
 use crate::columns::column_named;
 use crate::found::{Found, Shape};
-use crate::running::{narrow, Running};
+use crate::running::{Running, narrow};
 use crate::{CheckFault, ExprKind};
 use pt_ast::{Columns, Expr, Func};
-use pt_value::{day_of_text, Ident, Kind};
+use pt_value::{Ident, Kind, day_of_text};
 
 /// The kind of an expression over these columns, or its first fault from left to right. `date` says that a text which is the
 /// whole expression stands for a date. It takes no memory.

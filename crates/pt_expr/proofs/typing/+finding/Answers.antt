@@ -10,13 +10,13 @@ loop-part-init t c =
 pub loop-part-preserved : goal.loop-part-preserved
 loop-part-preserved t c =
     rw c.plus-sum.ensures (sum_more _ c.args.columns.now c.loop-part.sum c.items-part-items.result.now c.loop-part.part-index c.loop-part-item.result c.in_ok-finding-in-Sum.field-0 c.loop-part-test.true c.loop-part-item.is
-        c.loop-part.invariant (sym c.in_ok-finding-in-Sum.was ∙ c.finding-in-loop-part.ensures))
+    c.loop-part.invariant (sym c.in_ok-finding-in-Sum.was ∙ c.finding-in-loop-part.ensures))
 
 pub returns-in_err-finding-in-Sum : goal.returns-in_err-finding-in-Sum
 returns-in_err-finding-in-Sum t c =
     let p = err_from_is_err_and c.from_residual-in_err-finding-in-Sum.result c.from_residual-in_err-finding-in-Sum.ensures.1 in
     rw (p.1, p.2) (sum_fault _ c.args.columns.now c.loop-part.sum c.items-part-items.result.now c.loop-part.part-index c.loop-part-item.result c.in_err-finding-in-Sum.field-0.0 c.loop-part-test.true c.loop-part-item.is
-        c.loop-part.invariant (sym c.in_err-finding-in-Sum.was ∙ c.finding-in-loop-part.ensures))
+    c.loop-part.invariant (sym c.in_err-finding-in-Sum.was ∙ c.finding-in-loop-part.ensures))
 
 pub returns-after-loop-part : goal.returns-after-loop-part
 returns-after-loop-part t c =
@@ -30,13 +30,13 @@ loop-op-init t c =
 pub loop-op-preserved : goal.loop-op-preserved
 loop-op-preserved t c =
     rw c.times-product.ensures (product_more _ c.args.columns.now c.loop-op.product c.items-op-items.result.now c.loop-op.op-index c.loop-op-item.result c.in_ok-finding-in-Product-2.field-0 c.loop-op-test.true c.loop-op-item.is
-        c.loop-op.invariant (sym c.in_ok-finding-in-Product-2.was ∙ c.finding-in-loop-op.ensures))
+    c.loop-op.invariant (sym c.in_ok-finding-in-Product-2.was ∙ c.finding-in-loop-op.ensures))
 
 pub returns-in_err-finding-in-Product-2 : goal.returns-in_err-finding-in-Product-2
 returns-in_err-finding-in-Product-2 t c =
     let p = err_from_is_err_and c.from_residual-in_err-finding-in-Product-2.result c.from_residual-in_err-finding-in-Product-2.ensures.1 in
     rw (p.1, p.2) (product_fault _ c.args.columns.now c.loop-op.product c.items-op-items.result.now c.loop-op.op-index c.loop-op-item.result c.in_err-finding-in-Product-2.field-0.0 c.loop-op-test.true c.loop-op-item.is
-        c.loop-op.invariant (sym c.in_err-finding-in-Product-2.was ∙ c.finding-in-loop-op.ensures))
+    c.loop-op.invariant (sym c.in_err-finding-in-Product-2.was ∙ c.finding-in-loop-op.ensures))
 
 pub returns-after-loop-op : goal.returns-after-loop-op
 returns-after-loop-op t c =
