@@ -2,3 +2,5 @@ pub mod Spelling
 pub mod Gathering
 pub mod Parts
 pub mod Compared
+pub mod Magnitudes
+pub mod Nodes

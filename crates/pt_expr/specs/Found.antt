@@ -79,8 +79,11 @@ is_literal _ = false
 
 -- ---- nodes without parts
 
+abbrev pub number_found : ℕ → Found
+number_found bound = record { shape = shape.Number; bound = bound }
+
 abbrev pub number_finding : ℤ → Finding
-number_finding n = after (narrow (unsigned_abs n)) (λ bound. Ok (record { shape = shape.Number; bound = bound }))
+number_finding n = after (narrow (unsigned_abs n)) (λ bound. Ok (number_found bound))
 
 abbrev pub text_shape : Option ℤ → Shape
 text_shape (Some day) = shape.DayText
@@ -111,8 +114,11 @@ abbrev pub signed : Shape → Shape
 signed shape.Number = shape.Signed
 signed _ = shape.Wide
 
+abbrev pub negated : Found → Found
+negated part = record { shape = signed part.shape; bound = part.bound }
+
 abbrev pub negation : Found → Finding
-negation part = if may_be_wide part.shape then Ok (record { shape = signed part.shape; bound = part.bound }) else Err Mismatch
+negation part = if may_be_wide part.shape then Ok (negated part) else Err Mismatch
 
 abbrev pub sum_finding : List Found → Finding
 sum_finding parts =

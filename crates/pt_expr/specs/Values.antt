@@ -52,16 +52,21 @@ abbrev pub on_day : (ℤ → ℤ) → Value → Value
 on_day f (Day day) = Int (f day)
 on_day f _ = Null
 
+-- what a date function is of a day; ABS is none
+abbrev pub part_of_day : Func → ℤ → ℤ
+part_of_day func.Abs day = pos 0
+part_of_day func.Year day = pos (date_of day).year
+part_of_day func.Month day = pos (date_of day).month
+part_of_day func.DayOfMonth day = pos (date_of day).day
+part_of_day func.DayOfYear day = pos (day_of_year (date_of day))
+part_of_day func.DayOfWeek day = days_after_sunday day +ℤ pos 1
+part_of_day func.Weekday day = days_after_monday day
+part_of_day func.Quarter day = pos (quarter_of (date_of day).month)
+part_of_day func.ToDays day = day +ℤ pos 719_528
+
 abbrev pub call : Func → Value → Value
 call func.Abs part = on_number (λ n. pos (unsigned_abs n)) part
-call func.Year part = on_day (λ day. pos (date_of day).year) (as_day part)
-call func.Month part = on_day (λ day. pos (date_of day).month) (as_day part)
-call func.DayOfMonth part = on_day (λ day. pos (date_of day).day) (as_day part)
-call func.DayOfYear part = on_day (λ day. pos (day_of_year (date_of day))) (as_day part)
-call func.DayOfWeek part = on_day (λ day. days_after_sunday day +ℤ pos 1) (as_day part)
-call func.Weekday part = on_day days_after_monday (as_day part)
-call func.Quarter part = on_day (λ day. pos (quarter_of (date_of day).month)) (as_day part)
-call func.ToDays part = on_day (λ day. day +ℤ pos 719_528) (as_day part)
+call func part = on_day (part_of_day func) (as_day part)
 
 -- ---- all nodes
 

@@ -9,8 +9,10 @@ mod operands;
 mod running;
 mod typing;
 mod typing_cond;
+mod values;
 
 pub use kind::{CheckFault, ExprKind};
 pub use laws::spelled_days;
 pub use typing::check;
 pub use typing_cond::check_cond;
+pub use values::eval;
