@@ -1,5 +1,6 @@
 -- What is found part by part is found of all of them.
-use Rattle.std.proofs.Common.{◌≡◌, List, ◌∷◌, Result, Ok, Err, refl, ◌∙◌}
+use Rattle.std.proofs.Common.{◌≡◌, ℕ, ◌+◌, ◌<◌, List, ◌∷◌, length, drop, get_or, Result, Ok, Err, refl, sym, ap, ◌∙◌}
+use Rattle.std.proofs.lemmas.List.{drop_more}
 use Rattle.pt_expr.specs.declared.kind.CheckFault.{CheckFault}
 use Rattle.pt_expr.specs.Found.{after}
 
@@ -19,3 +20,7 @@ gather (Err fault) rest k g h = refl
 pub after-same : {A B : Type 0} (r : Result A CheckFault) (f g : A → Result B CheckFault) → ((x : A) → f x ≡ g x) → after r f ≡ after r g
 after-same (Ok x) f g h = h x
 after-same (Err fault) f g h = refl
+
+-- the element at a place, and what comes behind it
+pub drop_at_item : {X : Type 0} (xs : List X) (i : ℕ) (x : X) → i < length xs → x ≡ get_or xs i x → drop i xs ≡ x ∷ drop (i + 1) xs
+drop_at_item xs i x h is = drop_more xs i x h ∙ ap (λ y. y ∷ drop (i + 1) xs) (sym is)

@@ -4,3 +4,5 @@ pub mod Parts
 pub mod Compared
 pub mod Magnitudes
 pub mod Nodes
+pub mod Evaluating
+pub mod KindsHold

@@ -1,5 +1,5 @@
 -- How far values are from 0, by what their expressions were found to be.
-use Rattle.std.proofs.Common.{◌≡◌, ℕ, zero, suc, ◌+◌, ◌-◌, ◌*◌, ◌/◌, ◌<◌, ◌≤◌, ◌^◌, Bool, true, false, refl, sym, ap, subst, ◌∙◌, arith, ℤ, pos, negsuc, neg_ℤ, ◌+ℤ◌, ◌-ℤ◌, ◌*ℤ◌, ◌⊎◌, inl, inr}
+use Rattle.std.proofs.Common.{◌≡◌, ℕ, zero, suc, ◌+◌, ◌-◌, ◌*◌, ◌/◌, ◌<◌, ◌≤◌, ◌^◌, Bool, true, false, refl, sym, ap, ◌∙◌, arith, ℤ, pos, negsuc, neg_ℤ, ◌+ℤ◌, ◌-ℤ◌, ◌*ℤ◌}
 use Rattle.std.specs.Prelude.{unsigned_abs, int_div, int_rem, FitsSigned, not, ◌&&◌, ◌==◌}
 use Rattle.std.specs.Int.{w128}
 use Rattle.std.proofs.lemmas.Int.{ints, fits_signed_from_abs, rem_below, unsigned_abs-mul}
@@ -12,9 +12,9 @@ use Rattle.pt_ast.specs.declared.tree.Op.TheVariants as op
 use Rattle.pt_expr.specs.declared.found.Shape.{Shape}
 use Rattle.pt_expr.specs.declared.found.Shape.TheVariants as shape
 use Rattle.pt_expr.specs.declared.found.Found.{Found}
-use Rattle.pt_expr.specs.Agrees.{AgreesBy, CanMultiply, CanOperate, FitsDay, FitsWide, IsJust, IsWithin}
+use Rattle.pt_expr.specs.Agrees.{AgreesBy, CanMultiply, FitsWide, IsJust, IsWithin}
 use Rattle.pt_expr.specs.Found.{bound_after, is_literal, may_be_wide, takes}
-use Rattle.pt_expr.specs.Values.{on_number, on_numbers, plus, times}
+use Rattle.pt_expr.specs.Values.{on_numbers, plus, times}
 
 -- ---- magnitudes
 

@@ -1,9 +1,9 @@
 -- The value of each node agrees with what the node was found to be.
-use Rattle.std.proofs.Common.{◌≡◌, ℕ, ◌+◌, ◌<◌, ◌≤◌, ◌^◌, Bool, true, false, List, [], ◌∷◌, Option, Some, None, Ok, Err, IfOk, refl, sym, ap, subst, ◌∙◌, arith, ℤ, pos, neg_ℤ, ◌+ℤ◌, length}
+use Rattle.std.proofs.Common.{◌≡◌, ℕ, ◌+◌, ◌<◌, ◌≤◌, ◌^◌, Bool, true, false, List, [], ◌∷◌, Option, Some, None, Ok, Err, IfOk, refl, ap, ◌∙◌, arith, ℤ, pos, neg_ℤ, ◌+ℤ◌, length, drop, get_or}
 use Rattle.std.specs.Prelude.{unsigned_abs, nat_lt, if◌then◌else◌, is_some, ◌≤ℤ◌}
 use Rattle.std.proofs.lemmas.Int.{ints}
 use Rattle.std.proofs.lemmas.Bool.Decides.{nat_tests}
-use Rattle.pt_value.specs.Calendar.{date_of, days_after_monday, days_after_sunday}
+use Rattle.pt_value.specs.Calendar.{days_after_monday, days_after_sunday}
 use Rattle.pt_value.specs.Fits.{Fits, FitsDate}
 use Rattle.pt_value.specs.declared.value.Value.{Value}
 use Rattle.pt_value.specs.declared.value.Value.TheVariants as value
@@ -13,7 +13,6 @@ use Rattle.pt_value.proofs.Parts.{are_parts}
 use Rattle.pt_ast.specs.declared.table.Column.{Column}
 use Rattle.pt_ast.specs.declared.tree.Func.{Func}
 use Rattle.pt_ast.specs.declared.tree.Func.TheVariants as func
-use Rattle.pt_expr.specs.declared.kind.CheckFault.{CheckFault}
 use Rattle.pt_expr.specs.declared.kind.CheckFault.TheVariants.{Mismatch, TooWide, BadDate}
 use Rattle.pt_expr.specs.declared.found.Shape.{Shape}
 use Rattle.pt_expr.specs.declared.found.Shape.TheVariants as shape
@@ -24,6 +23,8 @@ use Rattle.pt_expr.specs.Found.{Finding, absolute, after, call_finding, column_f
 use Rattle.pt_expr.specs.Spelled.{spelled_day}
 use Rattle.pt_expr.specs.Values.{as_day, call, day_or_null, on_day, on_number, part_of_day}
 use Rattle.pt_expr.proofs.Magnitudes.{abs-neg, fits_within, wide_within}
+use Rattle.std.proofs.lemmas.List.{drop_more}
+use Rattle.pt_expr.proofs.Gathering.{drop_at_item}
 use Rattle.pt_expr.proofs.Spelling.{spelled_day_sound}
 
 -- ---- without parts
@@ -262,3 +263,17 @@ agrees_fits found value.Null h = tt
 agrees_fits found (value.Int n) h = fits_within found.bound (value.Int n) h.narrow (number_within found.shape found.bound n h.by)
 agrees_fits found (value.Day day) h = tt
 agrees_fits found (value.Bytes bytes) h = tt
+
+-- ---- the cell of a column, in a loop
+
+pub cell_here : (name : List ℕ) (columns : List Column) (cells : List Value) (at : ℕ) (column : Column) (cell : Value) → at < length columns → at < length cells
+    → column ≡ get_or columns at column → cell ≡ get_or cells at cell → is_named name column ≡ true → cell_named name (drop at columns) (drop at cells) ≡ cell
+cell_here name columns cells at column cell first second this that named =
+    ap (λ (cs : List Column). cell_named name cs (drop at cells)) (drop_at_item columns at column first this)
+    ∙ ap (λ (vs : List Value). cell_named name (column ∷ drop (at + 1) columns) vs) (drop_at_item cells at cell second that) ∙ rw named refl
+
+pub cell_further : (name : List ℕ) (columns : List Column) (cells : List Value) (at : ℕ) (column : Column) → at < length columns → at < length cells
+    → column ≡ get_or columns at column → is_named name column ≡ false → cell_named name (drop at columns) (drop at cells) ≡ cell_named name (drop (at + 1) columns) (drop (at + 1) cells)
+cell_further name columns cells at column first second this other =
+    ap (λ (cs : List Column). cell_named name cs (drop at cells)) (drop_at_item columns at column first this)
+    ∙ ap (λ (vs : List Value). cell_named name (column ∷ drop (at + 1) columns) vs) (drop_more cells at value.Null second) ∙ rw other refl

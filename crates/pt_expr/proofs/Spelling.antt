@@ -1,13 +1,15 @@
 -- The day that bytes spell is the one of which `SpellsDay` says so.
 use Rattle.std.proofs.Common.{◌≡◌, ℕ, zero, suc, ◌≤◌, Bool, true, false, List, Option, Some, None, ℤ, pos, ◌+ℤ◌, ◌-ℤ◌, ◌<ℤ◌, refl, sym, subst, ap, ◌∙◌, arith}
-use Rattle.std.specs.Prelude.{bytes_eq, if◌then◌else◌}
+use Rattle.std.specs.Prelude.{bytes_eq, IfSome, IfNone, if◌then◌else◌}
 use Rattle.std.specs.Cmp.Lexicographic.{same_text, other_text}
 use Rattle.std.proofs.lemmas.Int.{ints, by_lt_z}
 use Rattle.pt_value.specs.Calendar.{date_of}
 use Rattle.pt_value.specs.Fits.{FitsDate}
 use Rattle.pt_value.specs.Text.{SpellsDay, date_text}
 use Rattle.pt_value.proofs.Reading.{one_day}
+use Rattle.pt_expr.specs.Agrees.{day_in}
 use Rattle.pt_expr.specs.Spelled.{spelled_among, spelled_day}
+use Rattle.pt_expr.specs.Values.{day_or_null}
 
 day_at : ℕ → ℤ
 day_at n = pos n -ℤ pos 354_285
@@ -62,3 +64,12 @@ none_if (Some day) h = absurd (h day refl)
 
 pub spelled_day_none : (bytes : List ℕ) → ((day : ℤ) → ¬ (SpellsDay bytes day)) → spelled_day bytes ≡ None
 spelled_day_none bytes none = none_if (spelled_day bytes) (λ day e. none day (spelled_day_sound bytes day e))
+
+-- what `day_of_text` answers
+pub day_of_text_is : (bytes : List ℕ) (day : Option ℤ) → IfSome day (SpellsDay bytes) → IfNone day ((d : ℤ) → ¬ (SpellsDay bytes d)) → day ≡ spelled_day bytes
+day_of_text_is bytes (Some day) some none = sym (spelled_day_is bytes day some)
+day_of_text_is bytes None some none = sym (spelled_day_none bytes none)
+
+pub day_in-or_null : (day : Option ℤ) → day_in (day_or_null day) ≡ day
+day_in-or_null (Some day) = refl
+day_in-or_null None = refl

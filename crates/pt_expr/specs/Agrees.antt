@@ -1,5 +1,5 @@
 -- For the code of `eval`: what it knows of the value of an expression by what that was found to be. Nothing public cites these.
-use Rattle.std.specs.Prelude.{◌≡◌, ℕ, ◌<◌, ◌≤◌, ◌^◌, ℤ, pos, ◌*ℤ◌, int_div, unsigned_abs, FitsSigned, List, IsSome, Option, Some, None}
+use Rattle.std.specs.Prelude.{◌≡◌, ℕ, ◌<◌, ◌≤◌, ◌^◌, ℤ, pos, ◌*ℤ◌, int_div, unsigned_abs, FitsSigned, IsSome, Option, Some, None}
 use Rattle.std.specs.Int.{w128}
 use Rattle.pt_value.specs.Fits.{FitsDate}
 use Rattle.pt_value.specs.declared.value.Value.{Value}

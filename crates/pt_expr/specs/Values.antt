@@ -1,5 +1,5 @@
 -- What an expression comes to on the cells of a row. Numbers are whole numbers of any size.
-use Rattle.std.specs.Prelude.{ℤ, pos, neg_ℤ, ◌+ℤ◌, ◌-ℤ◌, ◌*ℤ◌, int_div, int_rem, unsigned_abs, Bool, true, false, if◌then◌else◌, List, fold, Option, Some, None}
+use Rattle.std.specs.Prelude.{ℤ, pos, neg_ℤ, ◌+ℤ◌, ◌-ℤ◌, ◌*ℤ◌, int_div, int_rem, unsigned_abs, Bool, true, if◌then◌else◌, List, fold, Option, Some, None}
 use Rattle.pt_value.specs.Calendar.{date_of, day_of_year, days_after_monday, days_after_sunday, quarter_of}
 use Rattle.pt_value.specs.declared.value.Value.{Value}
 use Rattle.pt_value.specs.declared.value.Value.TheVariants.{Null, Int, Day, Bytes}
@@ -89,11 +89,10 @@ value columns cells = fold-Expr Value (value_step columns cells)
 
 -- ---- a whole expression
 
-abbrev pub is_text : Expr-F Expr → Bool
-is_text (Expr-F.Text bytes) = true
-is_text _ = false
-
 -- where a date is wanted, a text that is the whole expression stands for one
+abbrev pub wanted : Bool → Expr-F Expr → Value → Value
+wanted true (Expr-F.Text bytes) value = as_day value
+wanted date expr value = value
+
 abbrev pub whole_value : List Column → Expr → Bool → List Value → Value
-whole_value columns expr true cells = if is_text (out-Expr expr) then as_day (value columns cells expr) else value columns cells expr
-whole_value columns expr false cells = value columns cells expr
+whole_value columns expr date cells = wanted date (out-Expr expr) (value columns cells expr)

@@ -6,7 +6,7 @@ ghost use Rattle.pt_expr.specs.Columns.{AreFitting, cell_named};
 ghost use Rattle.pt_expr.specs.Found.{checked, finding};
 ghost use Rattle.pt_expr.specs.Kinds.{HasKind};
 ghost use Rattle.pt_ast.specs.declared.tree.Expr.TheViews.{out-Expr};
-ghost use Rattle.pt_expr.specs.Values.{as_day, call, day_or_null, is_text, on_number, operation, part_of_day, plus, times, value, whole_value};
+ghost use Rattle.pt_expr.specs.Values.{as_day, call, day_or_null, on_number, operation, part_of_day, plus, times, value, wanted, whole_value};
 
 use crate::columns::cell_named;
 use pt_ast::{Cells, Columns, Expr, Func, Op};
@@ -23,8 +23,7 @@ pub fn eval<'a>(columns: &Columns, expr: &'a Expr, date: bool, cells: &'a Cells)
     ensures value { lent result ≡ whole_value columns.now expr.now date cells.now }
     ensures kind { IfOk (checked columns.now expr.now date) (λ kind. HasKind kind (lent result)) }
 {
-    let value = value_of(columns, expr, cells);
-    if date && is_text(expr) { as_day(value) } else { value }
+    wanted(date, expr, value_of(columns, expr, cells))
 }
 
 /// What an expression comes to, and that this is what it was found to be.
@@ -60,12 +59,13 @@ pub(crate) fn value_of<'a>(columns: &Columns, expr: &'a Expr, cells: &'a Cells) 
     }
 }
 
-fn is_text(expr: &Expr) -> bool
-    ensures { result ≡ is_text (out-Expr expr.now) }
+/// Where a date is wanted, a text that is the whole expression as its day.
+fn wanted<'a>(date: bool, expr: &Expr, value: Cell<'a>) -> Cell<'a>
+    ensures { lent result ≡ wanted date (out-Expr expr.now) (lent value.entry) }
 {
     match expr {
-        Expr::Text(_) => true,
-        _ => false,
+        Expr::Text(_) if date => as_day(value),
+        _ => value,
     }
 }
 
