@@ -224,8 +224,8 @@ product_from columns cells expr first parts found v is ok here agrees comes =
         narrow = agrees.narrow;
         rest = ap (λ (w : Bool). product_rest columns (record { matches = w; bound = Some found.bound }) parts) (sym fits) ∙ rest;
         comes =
-          ap (λ (x : Value). fold times x (map (evaluated columns cells) parts)) comes
-          ∙ sym (ap (value columns cells) is ∙ ap (value columns cells) (sym (rolls-Product first parts)) ∙ fold-roll-Expr Value (value_step columns cells) (Expr-F.Product first parts));
+            ap (λ (x : Value). fold times x (map (evaluated columns cells) parts)) comes
+            ∙ sym (ap (value columns cells) is ∙ ap (value columns cells) (sym (rolls-Product first parts)) ∙ fold-roll-Expr Value (value_step columns cells) (Expr-F.Product first parts));
       };
     }
 
@@ -233,9 +233,9 @@ pub product_begins : (columns : List Column) (cells : List Value) (expr first : 
     → v ≡ value columns cells first → IfOk (finding columns first) (λ found. Agrees found v) → ProductBegins columns cells expr v parts
 product_begins columns cells expr first parts v is ok comes agrees = by_first (finding columns first) refl (product_first_ok columns expr first parts is ok) agrees
   where
-  by_first : (r : Finding) → finding columns first ≡ r → IsOk r → IfOk r (λ found. Agrees found v) → ProductBegins columns cells expr v parts
-  by_first (Ok found) here fine agree = product_from columns cells expr first parts found v is ok here agree comes
-  by_first (Err fault) here fine agree = absurd (cc)
+    by_first : (r : Finding) → finding columns first ≡ r → IsOk r → IfOk r (λ found. Agrees found v) → ProductBegins columns cells expr v parts
+    by_first (Ok found) here fine agree = product_from columns cells expr first parts found v is ok here agree comes
+    by_first (Err fault) here fine agree = absurd (cc)
 
 product_at : (columns : List Column) (cells : List Value) (expr : Expr) (bound : ℕ) (product : Value) (parts : List (Op × Expr)) (i : ℕ) (part : Op × Expr) → i < length parts → part ≡ get_or parts i part
     → IsOk (finding columns expr) → ProductGoes columns cells expr bound product (drop i parts) → ProductStep columns bound part (drop (i + 1) parts) (finding columns expr)

@@ -1,31 +1,27 @@
 -- The value of a well-typed expression is of its kind.
-use Rattle.std.proofs.Common.{◌≡◌, ℕ, ◌<◌, ◌^◌, Bool, true, false, List, map, Option, Some, None, Result, Ok, Err, IfOk, refl, sym, subst, arith, ℤ}
-use Rattle.std.specs.Prelude.{if◌then◌else◌, ◌&&◌, sum_by, unsigned_abs, IsOk}
-use Rattle.std.specs.List.{list_all}
+use Rattle.std.proofs.Common.{◌≡◌, ℕ, ◌<◌, ◌^◌, Bool, true, false, List, map, Option, Some, None, Ok, Err, IfOk, refl, sym, subst, arith, ℤ}
+use Rattle.std.specs.Prelude.{if◌then◌else◌, unsigned_abs, IsOk}
 use Rattle.pt_value.specs.declared.value.Value.{Value}
 use Rattle.pt_value.specs.declared.value.Value.TheVariants as value
 use Rattle.pt_value.specs.declared.value.Kind.{Kind}
 use Rattle.pt_value.specs.declared.value.Kind.TheVariants as kind
 use Rattle.pt_ast.specs.declared.table.Column.{Column}
-use Rattle.pt_ast.specs.declared.tree.Func.{Func}
-use Rattle.pt_ast.specs.declared.tree.Func.TheVariants as func
 use Rattle.pt_ast.specs.declared.tree.Op.{Op}
 use Rattle.pt_ast.specs.declared.tree.Expr.{Expr, map-Expr}
 use Rattle.pt_ast.specs.declared.tree.Expr.TheOpen.{Expr-F}
 use Rattle.pt_ast.specs.declared.tree.Expr.TheViews.{out-Expr}
 use Rattle.pt_ast.specs.declared.tree.Expr.TheFolds.{fold_out-Expr}
 use Rattle.pt_expr.specs.declared.kind.ExprKind.TheVariants as expr
-use Rattle.pt_expr.specs.declared.kind.CheckFault.{CheckFault}
-use Rattle.pt_expr.specs.declared.kind.CheckFault.TheVariants.{Mismatch, BadDate}
+use Rattle.pt_expr.specs.declared.kind.CheckFault.TheVariants.{BadDate}
 use Rattle.pt_expr.specs.declared.found.Shape.{Shape}
 use Rattle.pt_expr.specs.declared.found.Shape.TheVariants as shape
-use Rattle.pt_expr.specs.declared.found.Found.{Found}
 use Rattle.pt_expr.specs.Agrees.{Agrees, AgreesBy, IsDayText}
-use Rattle.pt_expr.specs.Found.{Finding, after, all_found, beside, call_finding, checked, column_finding, column_found, date_finding, day_part, finding, finding_step, fits_date, kind_finding, kind_of, may_be_wide, narrow, negated, negation, number_found, other, product_bound, product_finding, signed, sum_finding, takes, text_shape, wide}
+use Rattle.pt_expr.specs.Found.{Finding, after, all_found, beside, call_finding, checked, column_finding, column_found, date_finding, finding, finding_step, fits_date, kind_finding, kind_of, narrow, negation, number_found, other, product_finding, sum_finding, text_shape}
 use Rattle.pt_expr.specs.Columns.{column_named}
 use Rattle.pt_expr.specs.Kinds.{HasKind}
 use Rattle.pt_expr.specs.Spelled.{spelled_day}
 use Rattle.pt_expr.specs.Values.{as_day, day_or_null, wanted}
+use Rattle.pt_expr.proofs.Numbers.{IsNumeric, call_numeric, is_number, negation_numeric, number_numeric, numeric_after, product_numeric, sum_numeric}
 use Rattle.pt_expr.proofs.Spelling.{spelled_day_sound}
 
 -- ---- only a text is found to be one
@@ -43,20 +39,20 @@ is_text_shape shape.Bytes = false
 record NoText (r : Finding) : Type 0 where
   none : IfOk r (λ found. is_text_shape found.shape ≡ false)
 
-none_after : {A : Type 0} (r : Result A CheckFault) (k : A → Finding) → ((x : A) → NoText (k x)) → NoText (after r k)
-none_after (Ok x) k h = h x
-none_after (Err fault) k h = record { none = tt }
-
-none_cond : (b : Bool) (a z : Finding) → NoText a → NoText z → NoText (if b then a else z)
-none_cond true a z p q = p
-none_cond false a z p q = q
-
-no_fault : (fault : CheckFault) → NoText (Err fault)
-no_fault fault = record { none = tt }
-
-wide_none : (bound : ℕ) → NoText (Ok (wide bound))
+number_no_text : (s : Shape) → is_number s ≡ true → is_text_shape s ≡ false
 unfolding is_text_shape
-wide_none bound = record { none = refl }
+number_no_text shape.Null h = refl
+number_no_text shape.Number h = refl
+number_no_text shape.Signed h = refl
+number_no_text shape.Wide h = refl
+number_no_text shape.Day h = refl
+number_no_text shape.DayText h = absurd (cc)
+number_no_text shape.OtherText h = absurd (cc)
+number_no_text shape.Bytes h = refl
+
+numeric_none : (r : Finding) → IsNumeric r → NoText r
+numeric_none (Ok found) h = record { none = number_no_text found.shape h.holds }
+numeric_none (Err fault) h = record { none = tt }
 
 kind_none : (k : Kind) → is_text_shape (column_found k).shape ≡ false
 unfolding is_text_shape
@@ -69,62 +65,14 @@ column_none : (name : List ℕ) (o : Option Column) → NoText (column_finding n
 column_none name (Some column) = record { none = kind_none column.kind }
 column_none name None = record { none = tt }
 
-day_none : NoText (Ok (other shape.Day))
+fit_none : (b : Bool) → NoText (if b then Ok (other shape.Day) else Err BadDate)
 unfolding is_text_shape
-day_none = record { none = refl }
+fit_none true = record { none = refl }
+fit_none false = record { none = tt }
 
 date_none : (o : Option ℤ) → NoText (date_finding o)
-date_none (Some day) = none_cond (fits_date day) (Ok (other shape.Day)) (Err BadDate) day_none (no_fault BadDate)
-date_none None = no_fault BadDate
-
-signed_none : (s : Shape) → is_text_shape (signed s) ≡ false
-unfolding is_text_shape
-signed_none shape.Number = refl
-signed_none shape.Null = refl
-signed_none shape.Signed = refl
-signed_none shape.Wide = refl
-signed_none shape.Day = refl
-signed_none shape.DayText = refl
-signed_none shape.OtherText = refl
-signed_none shape.Bytes = refl
-
-negation_none : (part : Found) → NoText (negation part)
-negation_none part = none_cond (may_be_wide part.shape) (Ok (negated part)) (Err Mismatch) (record { none = signed_none part.shape }) (no_fault Mismatch)
-
-sum_none : (parts : List Found) → NoText (sum_finding parts)
-sum_none parts =
-    none_cond (list_all (λ (part : Found). may_be_wide part.shape) parts) (after (narrow (sum_by (λ (part : Found). part.bound) parts)) (λ bound. Ok (wide bound))) (Err Mismatch)
-    (none_after (narrow (sum_by (λ (part : Found). part.bound) parts)) (λ bound. Ok (wide bound)) wide_none) (no_fault Mismatch)
-
-product_none : (found : Found) (parts : List (Op × Found)) → NoText (product_finding found parts)
-product_none found parts =
-    none_cond (may_be_wide found.shape && list_all (λ (part : Op × Found). takes part.0 part.1) parts) (after (product_bound found.bound parts) (λ bound. Ok (wide bound))) (Err Mismatch)
-    (none_after (product_bound found.bound parts) (λ bound. Ok (wide bound)) wide_none) (no_fault Mismatch)
-
-day_part_none : (bound : ℕ) (s : Shape) → NoText (day_part bound s)
-day_part_none bound shape.Null = wide_none bound
-day_part_none bound shape.Number = no_fault Mismatch
-day_part_none bound shape.Signed = no_fault Mismatch
-day_part_none bound shape.Wide = no_fault Mismatch
-day_part_none bound shape.Day = wide_none bound
-day_part_none bound shape.DayText = wide_none bound
-day_part_none bound shape.OtherText = no_fault BadDate
-day_part_none bound shape.Bytes = no_fault Mismatch
-
-call_none : (f : Func) (part : Found) → NoText (call_finding f part)
-call_none func.Abs part = none_cond (may_be_wide part.shape) (Ok (wide part.bound)) (Err Mismatch) (wide_none part.bound) (no_fault Mismatch)
-call_none func.Year part = day_part_none 9999 part.shape
-call_none func.Month part = day_part_none 12 part.shape
-call_none func.DayOfMonth part = day_part_none 31 part.shape
-call_none func.DayOfYear part = day_part_none 366 part.shape
-call_none func.DayOfWeek part = day_part_none 7 part.shape
-call_none func.Weekday part = day_part_none 6 part.shape
-call_none func.Quarter part = day_part_none 4 part.shape
-call_none func.ToDays part = day_part_none 3_652_424 part.shape
-
-number_none : (bound : ℕ) → NoText (Ok (number_found bound))
-unfolding is_text_shape
-number_none bound = record { none = refl }
+date_none (Some day) = fit_none (fits_date day)
+date_none None = record { none = tt }
 
 -- ---- the kind of a value
 
@@ -161,9 +109,9 @@ spelled_kind (value.Int n) a = absurd a
 spelled_kind (value.Day day) a = absurd a
 spelled_kind (value.Bytes bytes) a = by_day (spelled_day bytes) refl
   where
-  by_day : (o : Option ℤ) → spelled_day bytes ≡ o → HasKind expr.Day (day_or_null o)
-  by_day (Some day) e = let spelled = spelled_day_sound bytes day e in spelled.fits
-  by_day None e = tt
+    by_day : (o : Option ℤ) → spelled_day bytes ≡ o → HasKind expr.Day (day_or_null o)
+    by_day (Some day) e = let spelled = spelled_day_sound bytes day e in spelled.fits
+    by_day None e = tt
 
 -- no date is wanted
 own_kinds : (s : Shape) (b : ℕ) (v : Value) → b < 2 ^ 126 → AgreesBy s b v → IfOk (kind_finding false s) (λ kind. HasKind kind v)
@@ -215,20 +163,20 @@ bytes_none = record { none = refl }
 of_layer : (columns : List Column) (x : Expr-F Expr) (v : Value) (date : Bool) → IfOk (finding_step columns (mapped columns x)) (λ found. Agrees found v)
     → IfOk (after (finding_step columns (mapped columns x)) (λ found. kind_finding date found.shape)) (λ kind. HasKind kind (wanted date x v))
 unfolding mapped
-of_layer columns (Expr-F.Number n) v date a = of_node (Expr-F.Number n) _ v date refl (none_after (narrow (unsigned_abs n)) (λ bound. Ok (number_found bound)) number_none) a
+of_layer columns (Expr-F.Number n) v date a = of_node (Expr-F.Number n) _ v date refl (numeric_none _ (numeric_after (narrow (unsigned_abs n)) (λ bound. Ok (number_found bound)) number_numeric)) a
 of_layer columns (Expr-F.Text bytes) v date a = of_text (spelled_day bytes) v date bytes a
 of_layer columns (Expr-F.Hex bytes) v date a = of_node (Expr-F.Hex bytes) _ v date refl bytes_none a
 of_layer columns (Expr-F.Date day) v date a = of_node (Expr-F.Date day) _ v date refl (date_none day) a
 of_layer columns Expr-F.Null v date a = of_node Expr-F.Null _ v date refl null_none a
 of_layer columns (Expr-F.Column name) v date a = of_node (Expr-F.Column name) _ v date refl (column_none name (column_named name columns)) a
-of_layer columns (Expr-F.Neg part) v date a = of_node (Expr-F.Neg part) _ v date refl (none_after (finding columns part) negation negation_none) a
+of_layer columns (Expr-F.Neg part) v date a = of_node (Expr-F.Neg part) _ v date refl (numeric_none _ (numeric_after (finding columns part) negation negation_numeric)) a
 of_layer columns (Expr-F.Sum parts) v date a =
     of_node (Expr-F.Sum parts) _ v date refl
-    (none_after (all_found (map (λ (part : Bool × Finding). part.1) (map (λ (part : Bool × Expr). (part.0, finding columns part.1)) parts))) sum_finding sum_none) a
+    (numeric_none _ (numeric_after (all_found (map (λ (part : Bool × Finding). part.1) (map (λ (part : Bool × Expr). (part.0, finding columns part.1)) parts))) sum_finding sum_numeric)) a
 of_layer columns (Expr-F.Product first parts) v date a =
     of_node (Expr-F.Product first parts) _ v date refl
-    (none_after (finding columns first) _ (λ found. none_after (all_found (map (λ (part : Op × Finding). beside part.0 part.1) (map (λ (part : Op × Expr). (part.0, finding columns part.1)) parts))) (product_finding found) (product_none found))) a
-of_layer columns (Expr-F.Call f part) v date a = of_node (Expr-F.Call f part) _ v date refl (none_after (finding columns part) (call_finding f) (call_none f)) a
+    (numeric_none _ (numeric_after (finding columns first) _ (λ found. numeric_after (all_found (map (λ (part : Op × Finding). beside part.0 part.1) (map (λ (part : Op × Expr). (part.0, finding columns part.1)) parts))) (product_finding found) (product_numeric found)))) a
+of_layer columns (Expr-F.Call f part) v date a = of_node (Expr-F.Call f part) _ v date refl (numeric_none _ (numeric_after (finding columns part) (call_finding f) (call_numeric f))) a
 
 -- the value of a whole expression is of the kind that `checked` gives
 pub kind_holds : (columns : List Column) (expr : Expr) (date : Bool) (v : Value) → IfOk (finding columns expr) (λ found. Agrees found v)
@@ -242,6 +190,6 @@ kind_holds columns expr date v a =
 pub checked_finding : (columns : List Column) (expr : Expr) (date : Bool) → IsOk (checked columns expr date) → IsOk (finding columns expr)
 checked_finding columns expr date ok = by_finding (finding columns expr) ok
   where
-  by_finding : (r : Finding) → IsOk (after r (λ found. kind_finding date found.shape)) → IsOk r
-  by_finding (Ok found) h = refl
-  by_finding (Err fault) h = h
+    by_finding : (r : Finding) → IsOk (after r (λ found. kind_finding date found.shape)) → IsOk r
+    by_finding (Ok found) h = refl
+    by_finding (Err fault) h = h

@@ -5,4 +5,6 @@ pub mod Compared
 pub mod Magnitudes
 pub mod Nodes
 pub mod Evaluating
+pub mod Numbers
 pub mod KindsHold
+pub mod Deciding

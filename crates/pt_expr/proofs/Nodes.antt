@@ -32,9 +32,9 @@ use Rattle.pt_expr.proofs.Spelling.{spelled_day_sound}
 pub text_agrees : (bytes : List ℕ) → Agrees (other (text_shape (spelled_day bytes))) (value.Bytes bytes)
 text_agrees bytes = by_day (spelled_day bytes) refl
   where
-  by_day : (o : Option ℤ) → spelled_day bytes ≡ o → Agrees (other (text_shape o)) (value.Bytes bytes)
-  by_day (Some day) e = record { by = ap is_some e; narrow = omega arith }
-  by_day None e = record { by = tt; narrow = omega arith }
+    by_day : (o : Option ℤ) → spelled_day bytes ≡ o → Agrees (other (text_shape o)) (value.Bytes bytes)
+    by_day (Some day) e = record { by = ap is_some e; narrow = omega arith }
+    by_day None e = record { by = tt; narrow = omega arith }
 
 -- ---- columns
 
@@ -75,9 +75,9 @@ column_agrees name [] cells h = tt
 column_agrees name (column ∷ columns) [] h = absurd h
 column_agrees name (column ∷ columns) (cell ∷ cells) h = by_name (column_agrees name columns cells h.1) (is_named name column)
   where
-  by_name : IfOk (column_finding name (column_named name columns)) (λ found. Agrees found (cell_named name columns cells)) → (b : Bool) → IfOk (column_finding name (if b then Some column else column_named name columns)) (λ found. Agrees found (if b then cell else cell_named name columns cells))
-  by_name rest true = cell_agrees column.kind cell h.0
-  by_name rest false = rest
+    by_name : IfOk (column_finding name (column_named name columns)) (λ found. Agrees found (cell_named name columns cells)) → (b : Bool) → IfOk (column_finding name (if b then Some column else column_named name columns)) (λ found. Agrees found (if b then cell else cell_named name columns cells))
+    by_name rest true = cell_agrees column.kind cell h.0
+    by_name rest false = rest
 
 pub fitting_length : (columns : List Column) (cells : List Value) → AreFitting columns cells → length columns ≡ length cells
 fitting_length [] [] h = refl
@@ -94,10 +94,10 @@ pub number_agrees : (n : ℤ) → IfOk (number_finding n) (λ found. Agrees foun
 unfolding okay
 number_agrees n = by_size (nat_lt (unsigned_abs n) (2 ^ 126)) refl
   where
-  by_size : (b : Bool) → nat_lt (unsigned_abs n) (2 ^ 126) ≡ b
-      → IfOk (after (if b then Ok (unsigned_abs n) else Err TooWide) (λ (bound : ℕ). okay (number_found bound))) (λ found. Agrees found (value.Int n))
-  by_size true e = record { by = refl; narrow = grind (arith, nat_tests) }
-  by_size false e = tt
+    by_size : (b : Bool) → nat_lt (unsigned_abs n) (2 ^ 126) ≡ b
+        → IfOk (after (if b then Ok (unsigned_abs n) else Err TooWide) (λ (bound : ℕ). okay (number_found bound))) (λ found. Agrees found (value.Int n))
+    by_size true e = record { by = refl; narrow = grind (arith, nat_tests) }
+    by_size false e = tt
 
 date_fits : (day : ℤ) → fits_date day ≡ true → FitsDate day
 date_fits day h = grind (arith, ints)
@@ -106,9 +106,9 @@ pub date_agrees : (day : Option ℤ) → IfOk (date_finding day) (λ found. Agre
 date_agrees None = tt
 date_agrees (Some day) = by_fit (fits_date day) refl
   where
-  by_fit : (b : Bool) → fits_date day ≡ b → IfOk (if b then Ok (other shape.Day) else Err BadDate) (λ found. Agrees found (value.Day day))
-  by_fit true e = record { by = date_fits day e; narrow = omega arith }
-  by_fit false e = tt
+    by_fit : (b : Bool) → fits_date day ≡ b → IfOk (if b then Ok (other shape.Day) else Err BadDate) (λ found. Agrees found (value.Day day))
+    by_fit true e = record { by = date_fits day e; narrow = omega arith }
+    by_fit false e = tt
 
 -- ---- a minus
 
@@ -137,10 +137,10 @@ signed_agrees shape.Bytes b v w a = neg_within b v (wide_within shape.Bytes b v 
 pub negation_agrees : (part : Found) (v : Value) → Agrees part v → IfOk (negation part) (λ found. Agrees found (on_number neg_ℤ v))
 negation_agrees part v h = by_kind (may_be_wide part.shape) refl
   where
-  by_kind : (b : Bool) → may_be_wide part.shape ≡ b
-      → IfOk (if b then Ok (negated part) else Err Mismatch) (λ found. Agrees found (on_number neg_ℤ v))
-  by_kind true e = record { by = signed_agrees part.shape part.bound v e h.by; narrow = h.narrow }
-  by_kind false e = tt
+    by_kind : (b : Bool) → may_be_wide part.shape ≡ b
+        → IfOk (if b then Ok (negated part) else Err Mismatch) (λ found. Agrees found (on_number neg_ℤ v))
+    by_kind true e = record { by = signed_agrees part.shape part.bound v e h.by; narrow = h.narrow }
+    by_kind false e = tt
 
 -- ---- functions
 
@@ -153,9 +153,9 @@ abs_within b (value.Bytes bytes) h = absurd h
 absolute_agrees : (part : Found) (v : Value) → Agrees part v → IfOk (absolute part) (λ found. Agrees found (on_number (λ n. pos (unsigned_abs n)) v))
 absolute_agrees part v h = by_kind (may_be_wide part.shape) refl
   where
-  by_kind : (b : Bool) → may_be_wide part.shape ≡ b → IfOk (if b then Ok (wide part.bound) else Err Mismatch) (λ found. Agrees found (on_number (λ n. pos (unsigned_abs n)) v))
-  by_kind true e = record { by = abs_within part.bound v (wide_within part.shape part.bound v e h.by); narrow = h.narrow }
-  by_kind false e = tt
+    by_kind : (b : Bool) → may_be_wide part.shape ≡ b → IfOk (if b then Ok (wide part.bound) else Err Mismatch) (λ found. Agrees found (on_number (λ n. pos (unsigned_abs n)) v))
+    by_kind true e = record { by = abs_within part.bound v (wide_within part.shape part.bound v e h.by); narrow = h.narrow }
+    by_kind false e = tt
 
 record IsPart (f : ℤ → ℤ) (n : ℕ) : Type 0 where
   within : (day : ℤ) → FitsDate day → unsigned_abs (f day) ≤ n
@@ -179,9 +179,9 @@ text_day f n (value.Int k) p h = absurd h
 text_day f n (value.Day day) p h = absurd h
 text_day f n (value.Bytes bytes) p h = by_day (spelled_day bytes) refl
   where
-  by_day : (o : Option ℤ) → spelled_day bytes ≡ o → IsWithin n (on_day f (day_or_null o))
-  by_day (Some day) e = let spelled = spelled_day_sound bytes day e in p.within day spelled.fits
-  by_day None e = tt
+    by_day : (o : Option ℤ) → spelled_day bytes ≡ o → IsWithin n (on_day f (day_or_null o))
+    by_day (Some day) e = let spelled = spelled_day_sound bytes day e in p.within day spelled.fits
+    by_day None e = tt
 
 part_agrees : (f : ℤ → ℤ) (n : ℕ) (s : Shape) (b : ℕ) (v : Value) → IsPart f n → AgreesBy s b v → IfOk (day_part n s) (λ found. Agrees found (on_day f (as_day v)))
 part_agrees f n shape.Null b v p h = record { by = null_day f n v h; narrow = p.narrow }
@@ -208,14 +208,14 @@ day_of_year_part day h = let p = are_parts day h in p.place.1
 day_of_week_part : (day : ℤ) → FitsDate day → unsigned_abs (part_of_day func.DayOfWeek day) ≤ 7
 day_of_week_part day h = let p = are_parts day h in let low = p.sunday.0 in let high = p.sunday.1 in between_six (days_after_sunday day) low high
   where
-  between_six : (z : ℤ) → pos 0 ≤ℤ z → z ≤ℤ pos 6 → unsigned_abs (z +ℤ pos 1) ≤ 7
-  between_six z low high = omega (arith, ints)
+    between_six : (z : ℤ) → pos 0 ≤ℤ z → z ≤ℤ pos 6 → unsigned_abs (z +ℤ pos 1) ≤ 7
+    between_six z low high = omega (arith, ints)
 
 weekday_part : (day : ℤ) → FitsDate day → unsigned_abs (part_of_day func.Weekday day) ≤ 6
 weekday_part day h = let p = are_parts day h in let low = p.monday.0 in let high = p.monday.1 in up_to_six (days_after_monday day) low high
   where
-  up_to_six : (z : ℤ) → pos 0 ≤ℤ z → z ≤ℤ pos 6 → unsigned_abs z ≤ 6
-  up_to_six z low high = omega (arith, ints)
+    up_to_six : (z : ℤ) → pos 0 ≤ℤ z → z ≤ℤ pos 6 → unsigned_abs z ≤ 6
+    up_to_six z low high = omega (arith, ints)
 
 quarter_part : (day : ℤ) → FitsDate day → unsigned_abs (part_of_day func.Quarter day) ≤ 4
 quarter_part day h = let p = are_parts day h in p.quarter.1

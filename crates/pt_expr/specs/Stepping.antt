@@ -1,14 +1,22 @@
 -- In the shape of the code: sums, products and operands part by part. Nothing public cites these.
 use Rattle.std.specs.Prelude.{ℕ, ◌+◌, ◌^◌, Bool, true, false, ◌&&◌, ◌||◌, nat_lt, if◌then◌else◌, List, [], ◌∷◌, Option, Some, None, Result, Ok, Err}
+use Rattle.pt_value.specs.declared.truth.Truth.{Truth}
+use Rattle.pt_value.specs.declared.truth.Truth.TheVariants.{False, Unknown, True}
+use Rattle.pt_value.specs.declared.value.Kind.{Kind}
+use Rattle.pt_value.specs.declared.value.Kind.TheVariants as kind
+use Rattle.pt_value.specs.declared.value.Value.{Value}
 use Rattle.pt_ast.specs.declared.table.Column.{Column}
 use Rattle.pt_ast.specs.declared.tree.Op.{Op}
 use Rattle.pt_ast.specs.declared.tree.Expr.{Expr}
+use Rattle.pt_ast.specs.declared.tree.Expr.TheOpen.{Expr-F}
 use Rattle.pt_expr.specs.declared.kind.CheckFault.{CheckFault}
 use Rattle.pt_expr.specs.declared.kind.CheckFault.TheVariants.{Mismatch, TooWide, BadDate}
 use Rattle.pt_expr.specs.declared.found.Shape.{Shape}
 use Rattle.pt_expr.specs.declared.found.Found.{Found}
 use Rattle.pt_expr.specs.declared.running.Running.{Running}
 use Rattle.pt_expr.specs.declared.operands.Operands.{Operands}
+use Rattle.pt_expr.specs.Columns.{column_named}
+use Rattle.pt_expr.specs.Truths.{equals, is_null}
 use Rattle.pt_expr.specs.Found.{Finding, after, bound_after, finding, may_be_wide, may_be_day, may_be_bytes, takes, wide}
 use Rattle.pt_expr.specs.FoundCond.{Verdict, is_day, is_other_text}
 
@@ -75,3 +83,24 @@ operands_after columns operands expr = after (finding columns expr) (λ found. O
 unfoldable pub operands_rest : List Column → Operands → List Expr → Verdict
 operands_rest columns operands [] = compared_verdict operands
 operands_rest columns operands (expr ∷ exprs) = after (operands_after columns operands expr) (λ next. operands_rest columns next exprs)
+
+-- ---- truth
+
+abbrev pub is_day_kind : Kind → Bool
+is_day_kind kind.Date = true
+is_day_kind _ = false
+
+abbrev pub is_day_column : Option Column → Bool
+is_day_column (Some column) = is_day_kind column.kind
+is_day_column None = false
+
+-- a node that is a date wherever it is well typed
+abbrev pub names_date : List Column → Expr-F Expr → Bool
+names_date columns (Expr-F.Date day) = true
+names_date columns (Expr-F.Column name) = is_day_column (column_named name columns)
+names_date columns _ = false
+
+-- what comes of IN with these items still to come, true where a NULL was met
+abbrev pub among_rest : Value → Bool → List Value → Truth
+among_rest x met [] = if met then Unknown else False
+among_rest x met (item ∷ items) = if equals x item then True else among_rest x (met || is_null item) items

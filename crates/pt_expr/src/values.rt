@@ -11,8 +11,8 @@ ghost use Rattle.pt_expr.specs.Values.{as_day, call, day_or_null, on_number, ope
 use crate::columns::cell_named;
 use pt_ast::{Cells, Columns, Expr, Func, Op};
 use pt_value::{
-    day_of_month, day_of_text, day_of_week, day_of_year, month, quarter, to_days, weekday, year,
-    Cell,
+    Cell, day_of_month, day_of_text, day_of_week, day_of_year, month, quarter, to_days, weekday,
+    year,
 };
 
 /// What an expression comes to on the cells of a row. `date` says that a text which is the whole expression stands for a date.
