@@ -83,9 +83,9 @@ read-quote mark false (b ∷ bytes) =
       | true ↦ ap (option_map suc) (read-quote mark true bytes) ∙ suc-behind b bytes (quote_end mark true bytes)
       | false ↦ elim (b == mark) as (λ v. cond (is_plain (cond v Read (ReadQuote mark))) (Some 1) (option_map suc (closing (cond v Read (ReadQuote mark)) bytes))
           ≡ behind-quote (b ∷ bytes) (cond v (Some 1) (option_map suc (quote_end mark false bytes)))) [
-        | true ↦ moved-one (closing Read bytes)
-        | false ↦ ap (option_map suc) (read-quote mark false bytes) ∙ suc-behind b bytes (quote_end mark false bytes)
-      ]
+            | true ↦ moved-one (closing Read bytes)
+            | false ↦ ap (option_map suc) (read-quote mark false bytes) ∙ suc-behind b bytes (quote_end mark false bytes)
+          ]
     ]
 
 -- behind a star: the end, or as if no star stood there
@@ -125,7 +125,7 @@ read-ends [] (suc passed) = refl
 read-ends (b ∷ bytes) (suc passed) = ap (option_map suc) (read-ends bytes passed) ∙ suc-moved passed (closing Read (drop passed bytes))
 read-ends (b ∷ bytes) zero =
     ap (λ end. cond (is_close b bytes) (Some 2) (cond (is_quote b) (option_map suc end) (option_map suc (read_end zero bytes))))
-      (same-then (λ n. read_end n bytes) (read-behind bytes) (read-ends bytes) (quote_end b false bytes) ∙ sym (read-quote b false bytes))
+    (same-then (λ n. read_end n bytes) (read-behind bytes) (read-ends bytes) (quote_end b false bytes) ∙ sym (read-quote b false bytes))
     ∙ ap (λ end. cond (is_close b bytes) (Some 2) (cond (is_quote b) (option_map suc (closing (ReadQuote b) bytes)) (option_map suc end))) (read-ends bytes zero ∙ sym (moved-zero (closing Read bytes)))
     ∙ sym (read-byte b bytes)
     ∙ moved-zero (closing Read (b ∷ bytes))

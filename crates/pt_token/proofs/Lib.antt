@@ -6,4 +6,5 @@ pub mod BlankTokens
 pub mod Ending
 pub mod Opening
 pub mod Cutting
+pub mod Parting
 pub mod Limits

@@ -1,21 +1,21 @@
 -- The machine leaves what `/*` opens at its end. It counts the digits behind `/*!` by a number with a 1 before them.
 use Rattle.std.proofs.Common.{◌≡◌, inl, inr, ℕ, zero, suc, ◌+◌, ◌*◌, ◌-◌, ◌≤◌, ◌<◌, cond, Bool, true, false, List, [], ◌∷◌, length, drop, Option, Some, None, refl, ap, ◌∙◌, sym, subst, arith}
-use Rattle.std.specs.Prelude.{◌==◌, ◌&&◌, ◌||◌, slice_index, nat_le, nat_lt}
+use Rattle.std.specs.Prelude.{◌==◌, ◌&&◌, ◌||◌, nat_le, nat_lt}
 use Rattle.std.specs.List.{fold}
-use Rattle.std.specs.Option.{option_map, option_and_then}
+use Rattle.std.specs.Option.{option_map}
 use Rattle.std.proofs.lemmas.Bool.{cases_Bool, eqb-true, false≢true, and_parts, leb-true, le-leb, lt-leb, leb-false, le-ltb, lt-ltb, ne_eqb}
 use Rattle.std.proofs.Math.Dec.{eqb-zero-suc, eqb-suc-zero, eqb-suc-suc}
 use Rattle.std.proofs.lemmas.List.Sums.{take_while-cons}
 use Rattle.pt_token.specs.declared.bytes.Class.TheVariants.{Digit}
 use Rattle.pt_token.specs.declared.state.State.{State}
-use Rattle.pt_token.specs.declared.state.State.TheVariants.{Plain, Quote, Line, Opened, Block, Star, Version, Read, ReadStar, ReadQuote, ReadEscaped}
+use Rattle.pt_token.specs.declared.state.State.TheVariants.{Opened, Block, Star, Version, Read}
 use Rattle.pt_token.specs.declared.comment.Comment.TheVariants.{Plain as Skipped, Read as IsRead, Malformed}
-use Rattle.pt_token.specs.Bytes.{is_digit, is_quote, is_in, front}
-use Rattle.pt_token.specs.Machine.{closing, is_plain, step, from_block, from_read, after_version}
-use Rattle.pt_token.specs.Ends.{quote_end, comment_end, read_end, is_close}
+use Rattle.pt_token.specs.Bytes.{is_digit, is_in, front}
+use Rattle.pt_token.specs.Machine.{closing, is_plain, from_block, from_read}
+use Rattle.pt_token.specs.Ends.{comment_end}
 use Rattle.pt_token.specs.Gap.{opened_end, kind, number, end_of, by_digits}
 use Rattle.pt_token.specs.Laws.{IsLeftAtEnds}
-use Rattle.pt_token.proofs.Loops.{moved, moved-zero, suc-moved}
+use Rattle.pt_token.proofs.Loops.{moved-zero, suc-moved}
 use Rattle.pt_token.proofs.Ending.{line-ends, quote-ends, comment-ends, read-behind, read-ends}
 
 -- The least and the greatest number that a version is, once so many more digits are read.
@@ -144,7 +144,7 @@ digit-byte b bytes version v digit e =
 
 version-digit : (b : ℕ) (bytes : List ℕ) (more version : ℕ) → is_digit b ≡ true → IsVersion more version
     → ((less : ℕ) → IsVersion less (10 * version + (b - 48))
-      → closing (Version (10 * version + (b - 48))) bytes ≡ behind-digits (is-read less (10 * version + (b - 48)) (front Digit bytes)) (length (front Digit bytes)) bytes)
+    → closing (Version (10 * version + (b - 48))) bytes ≡ behind-digits (is-read less (10 * version + (b - 48)) (front Digit bytes)) (length (front Digit bytes)) bytes)
     → closing (Version version) (b ∷ bytes) ≡ behind-digits (is-read more version (b ∷ front Digit bytes)) (suc (length (front Digit bytes))) (b ∷ bytes)
 version-digit b bytes zero version digit h behind =
     digit-byte b bytes version false digit (le-ltb version 100000 h.low)

@@ -1,5 +1,5 @@
 -- White space and comments. In a comment that is read, as in `/*!50100 .. */`, only white space and its end are such.
-use Rattle.std.specs.Prelude.{◌≡◌, ℕ, ◌+◌, ◌-◌, ◌*◌, Bool, true, false, ◌&&◌, ◌||◌, ◌==◌, nat_le, nat_eq, if◌then◌else◌, List, [], ◌∷◌, length, drop, codes, slice_index, Option, Some, None, unwrap_or}
+use Rattle.std.specs.Prelude.{◌≡◌, ℕ, ◌+◌, ◌-◌, ◌*◌, Bool, true, false, ◌&&◌, ◌||◌, ◌==◌, nat_le, nat_eq, if◌then◌else◌, List, [], length, drop, codes, slice_index, Option, Some, None, unwrap_or}
 use Rattle.std.specs.List.{fold, starts_with}
 use Rattle.pt_token.specs.declared.comment.Comment.{Comment}
 use Rattle.pt_token.specs.declared.comment.Comment.TheVariants.{Plain, Read, Malformed}

@@ -3,7 +3,7 @@ use Rattle.std.specs.Prelude.{◌≡◌, ◌↔◌, ℕ, ◌<◌, ◌≤◌, tru
 use Rattle.std.specs.List.{list_all}
 use Rattle.pt_token.specs.declared.state.State.TheVariants.{Plain, Quote, Line, Opened, Block, Read}
 use Rattle.pt_token.specs.Ends.{line_end, quote_end, comment_end, read_end}
-use Rattle.pt_token.specs.Outside.{IsCutAt}
+use Rattle.pt_token.specs.Outside.{ArePieces, IsCutAt}
 use Rattle.pt_token.specs.Pieces.{cut_in, cuts, fits, most_piece, most_script, pieces, pieces_after, used_by}
 use Rattle.pt_token.specs.Splitting.{next_cut, piece_after}
 use Rattle.pt_token.specs.Gap.{IsBlank, opened_end}
@@ -41,6 +41,10 @@ BlankHasNoToken = (piece : List ℕ) → IsBlank piece ↔ IsLexed piece []
 -- The machine's first cut is the first `;` outside quotes and comments.
 abbrev pub CutsOutside : Type 0
 CutsOutside = (bytes : List ℕ) (place : ℕ) → (cut_in Plain bytes ≡ Some place) ↔ IsCutAt bytes place
+
+-- The pieces are what stands between these.
+abbrev pub PiecesOutside : Type 0
+PiecesOutside = (script : List ℕ) (found : List (List ℕ)) → (pieces script ≡ found) ↔ ArePieces script found
 
 -- The machine leaves a line, a quote and what `/*` opens at their ends, and goes on where these have none.
 pub record IsLeftAtEnds (bytes : List ℕ) : Type 0 where

@@ -1,5 +1,5 @@
--- Which `;` of a script ends a piece, told quote by quote and comment by comment.
-use Rattle.std.specs.Prelude.{◌≡◌, ℕ, suc, ◌+◌, false, ◌&&◌, ◌||◌, ◌==◌, if◌then◌else◌, List, [], ◌∷◌, drop, slice_index, Option, Some}
+-- Which `;` of a script ends a piece, told quote by quote and comment by comment, and the pieces between.
+use Rattle.std.specs.Prelude.{◌≡◌, ℕ, suc, ◌+◌, false, ◌&&◌, ◌||◌, ◌==◌, if◌then◌else◌, List, [], ◌∷◌, take, drop, slice_index, Option, Some}
 use Rattle.std.specs.Option.{option_map}
 use Rattle.pt_token.specs.Bytes.{is_white}
 use Rattle.pt_token.specs.Ends.{line_end, quote_end}
@@ -28,3 +28,8 @@ behind_first b bytes =
 pub data IsCutAt : List ℕ → ℕ → Type 0 where
   here : {bytes : List ℕ} → IsCutAt (59 ∷ bytes) 0
   later : {b n place : ℕ} {bytes : List ℕ} → (b == 59) ≡ false → behind_first b bytes ≡ Some n → IsCutAt (drop n bytes) place → IsCutAt (b ∷ bytes) (suc (place + n))
+
+-- The pieces of a script: what stands before, between and behind its cuts.
+pub data ArePieces : List ℕ → List (List ℕ) → Type 0 where
+  last : {bytes : List ℕ} → ((place : ℕ) → IsCutAt bytes place → ⊥) → ArePieces bytes (bytes ∷ [])
+  more : {bytes : List ℕ} {place : ℕ} {pieces : List (List ℕ)} → IsCutAt bytes place → ArePieces (drop (place + 1) bytes) pieces → ArePieces bytes (take place bytes ∷ pieces)
