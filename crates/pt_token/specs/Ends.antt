@@ -23,7 +23,7 @@ abbrev pub comment_end : List ℕ → Option ℕ
 comment_end [] = None
 comment_end (b ∷ bytes) = if is_close b bytes then Some 2 else option_map suc (comment_end bytes)
 
--- Up to and with the first `*/` outside quotes. So many bytes at the front are passed over: those of an opener, or of a quote.
+-- Up to and with the first `*/` outside quotes. So many bytes at the front are passed over: those of an opener or of a quote.
 abbrev pub read_end : ℕ → List ℕ → Option ℕ
 read_end passed [] = None
 read_end (suc passed) (b ∷ bytes) = option_map suc (read_end passed bytes)

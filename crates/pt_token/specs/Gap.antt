@@ -26,13 +26,14 @@ by_digits ds =
 unfoldable pub kind : List ℕ → Comment
 kind bytes = if slice_index bytes 0 == 33 then by_digits (front Digit (drop 1 bytes)) else Plain
 
--- how many bytes a comment of that kind has behind its `/*`, with its end
+-- How many bytes a comment of that kind has behind its `/*`, with its end. What belongs to the opener of one that is read is
+-- passed over.
 abbrev pub end_of : Comment → List ℕ → Option ℕ
 end_of Plain bytes = comment_end bytes
 end_of (Read n) bytes = read_end n bytes
 end_of Malformed bytes = comment_end bytes
 
--- how many bytes what `/*` opens has behind it, with its end; None where it is open to the end
+-- how many bytes there are behind `/*` up to and with the comment's end; None where it is open to the end
 unfoldable pub opened_end : List ℕ → Option ℕ
 opened_end bytes = end_of (kind bytes) bytes
 

@@ -1,4 +1,5 @@
--- Where a byte of a script stands: outside, in a quote or in a comment. It is told by going over the bytes before it.
+-- Where a byte of a script stands: outside, in a quote or in a comment. It is told by going over the bytes before it. (In the
+-- shape of the code; Ends, Gap and Outside tell without it where quotes and comments end and which `;` cuts.)
 use Rattle.std.specs.Prelude.{ℕ, suc, ◌+◌, ◌-◌, ◌*◌, Bool, true, false, ◌&&◌, ◌||◌, ◌==◌, nat_le, nat_lt, if◌then◌else◌, List, [], ◌∷◌, Option, Some, None}
 use Rattle.std.specs.Option.{option_map}
 use Rattle.pt_token.specs.Bytes.{is_digit, is_white}
