@@ -1,8 +1,8 @@
 pub mod Bytes
 pub mod Machine
 pub mod Pieces
-pub mod Gap
 pub mod Ends
+pub mod Gap
 pub mod Outside
 pub mod Quoting
 pub mod Tokens
