@@ -1,0 +1,10 @@
+pub mod Spelling
+pub mod Gathering
+pub mod Parts
+pub mod Compared
+pub mod Magnitudes
+pub mod Nodes
+pub mod Evaluating
+pub mod Numbers
+pub mod KindsHold
+pub mod Deciding
