@@ -8,3 +8,5 @@ pub mod Opening
 pub mod Cutting
 pub mod Parting
 pub mod Limits
+pub mod Placed
+pub mod Sizes

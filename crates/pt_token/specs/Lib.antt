@@ -6,6 +6,7 @@ pub mod Gap
 pub mod Outside
 pub mod Quoting
 pub mod Tokens
+pub mod Placed
 pub mod Stepping
 pub mod Splitting
 pub mod Laws
