@@ -43,6 +43,7 @@ word_stays_open bytes height = go (reserved bytes) (λ mark found. looked_up is_
     go None h = refl
     go (Some mark) h = stays_open mark height (h mark refl)
 
+-- no other token opens or closes a parenthesis
 pub not_a_sign : (k : TokenKind) (bytes : List ℕ) (height : ℕ) → (k ≡ kind.Sign → ⊥) → height ≡ open_after (symbol_of k bytes) height
 not_a_sign kind.Word bytes height other = sym (word_stays_open bytes height)
 not_a_sign kind.Quoted bytes height other = refl
@@ -55,6 +56,7 @@ are_signs : All (λ s. is_some (sign s) ≡ true) signs
 unfolding sign lookup
 are_signs = AllPass-from_list_all (λ s. is_some (sign s)) signs refl
 
-pub is_sign : (bytes : List ℕ) → Contains signs bytes → sign bytes ≡ None → ⊥
-is_sign bytes h none =
+-- a sign has a mark
+pub has_mark : (bytes : List ℕ) → Contains signs bytes → sign bytes ≡ None → ⊥
+has_mark bytes h none =
     let bad : false ≡ true = ap is_some (sym none) ∙ All-contains (λ s. is_some (sign s) ≡ true) signs bytes are_signs h in cc

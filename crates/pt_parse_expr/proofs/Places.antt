@@ -1,19 +1,17 @@
 -- From readings and rests to places: what is read from a place on is spelled there, reaches furthest, and is the only reading.
-use Rattle.std.proofs.Common.{◌≡◌, ℕ, zero, suc, ◌+◌, ◌-◌, ◌<◌, ◌≤◌, Bool, false, List, [], ◌∷◌, ◌++◌, length, take, drop, slice_range, Option, Some, None, refl, ap, ◌∙◌, sym, subst, arith, length-drop, length-append, append-nil, inl, inr, ◌⊎◌}
+use Rattle.std.proofs.Common.{◌≡◌, ℕ, zero, suc, ◌+◌, ◌-◌, ◌<◌, ◌≤◌, Bool, [], ◌∷◌, ◌++◌, length, take, drop, slice_range, Some, None, refl, ap, ◌∙◌, sym, subst, arith, length-drop, length-append, append-nil, inl, inr, ◌⊎◌}
 use Rattle.std.proofs.Math.Seq.{take-append_seam}
 use Rattle.std.proofs.lemmas.Bool.{cases_lt}
 use Rattle.std.proofs.lemmas.List.Folds.{drop_split}
-use Rattle.pt_ast.specs.declared.tree.Expr.{Expr}
-use Rattle.pt_ast.specs.declared.tree.Cond.{Cond}
-use Rattle.pt_parse_expr.specs.Grammar.{Symbols, IsExpr, IsCond}
+use Rattle.pt_parse_expr.specs.Grammar.{Symbols}
 use Rattle.pt_parse_expr.specs.declared.alphabet.Mark.TheVariants.{Open, Close}
 use Rattle.pt_parse_expr.specs.declared.alphabet.Symbol.{Symbol}
 use Rattle.pt_parse_expr.specs.declared.alphabet.Symbol.TheVariants.{Fixed}
 use Rattle.pt_parse_expr.specs.Limits.{IsShallow, open_after}
-use Rattle.pt_parse_expr.specs.Spelling.{SpellsExpr, SpellsCond, IsLongest, IsUnspelled, OneReading}
-use Rattle.pt_parse_expr.specs.Reader.{Reading, sum, either, found, as_cond}
-use Rattle.pt_parse_expr.proofs.Sound.{Sound, expr-sound, cond-sound}
-use Rattle.pt_parse_expr.proofs.Frame.{Framed, expr-framed, cond-framed}
+use Rattle.pt_parse_expr.specs.Spelling.{IsLongest, IsUnspelled, OneReading}
+use Rattle.pt_parse_expr.specs.Reader.{Reading}
+use Rattle.pt_parse_expr.proofs.Sound.{Sound}
+use Rattle.pt_parse_expr.proofs.Frame.{Framed}
 use Rattle.pt_parse_expr.proofs.Covers.{Covers, covers-exact, covers-far}
 use Rattle.pt_parse_expr.proofs.Complete.{expr-covers, cond-covers}
 

@@ -1,5 +1,5 @@
 -- What the reading of a piece's symbols, from a place on, says of the piece.
-use Rattle.std.proofs.Common.{◌≡◌, ℕ, ◌+◌, ◌<◌, ◌≤◌, ◌^◌, List, [], ◌∷◌, length, drop, slice_range, take, Option, Some, None, Result, Ok, Err, IfOk, refl, ap, ◌∙◌, sym, subst, arith, length-drop, length-take, ◌-◌}
+use Rattle.std.proofs.Common.{◌≡◌, ℕ, ◌<◌, ◌≤◌, ◌^◌, List, [], length, drop, slice_range, Some, None, Result, Ok, Err, IfOk, arith, length-drop, length-take, ◌-◌}
 use Rattle.pt_ast.specs.declared.tree.Expr.{Expr}
 use Rattle.pt_ast.specs.declared.tree.Cond.{Cond}
 use Rattle.pt_ast.specs.StorableExpr.{IsStorableExpr}
@@ -10,13 +10,11 @@ use Rattle.pt_parse_expr.specs.Symbols.{symbols}
 use Rattle.pt_parse_expr.specs.Grammar.{Symbols, IsExpr, IsCond}
 use Rattle.pt_parse_expr.specs.Limits.{IsDeep, IsShallow}
 use Rattle.pt_parse_expr.specs.Spelling.{SpellsExpr, SpellsCond, IsLongest, IsUnspelled}
-use Rattle.pt_parse_expr.specs.Reader.{Reading, sum, either, found, as_cond}
+use Rattle.pt_parse_expr.specs.Reader.{sum, either, found, as_cond}
 use Rattle.pt_parse_expr.proofs.Shallow.{shallow, shallow-drop}
 use Rattle.pt_parse_expr.proofs.Sound.{expr-sound, cond-sound}
-use Rattle.pt_parse_expr.proofs.Eats.{expr-eats, cond-eats}
 use Rattle.pt_parse_expr.proofs.Frame.{expr-framed, cond-framed}
 use Rattle.pt_parse_expr.proofs.Levels.{sum_on, cond_on}
-use Rattle.pt_parse_expr.proofs.Covers.{Covers}
 use Rattle.pt_parse_expr.proofs.Complete.{expr-covers, cond-covers}
 use Rattle.pt_parse_expr.proofs.Places.{extended, longest, unspelled}
 use Rattle.pt_parse_expr.proofs.Storing.{Within, within-drop, expr-within, cond-within}

@@ -1,5 +1,5 @@
 -- Symbols that aren't deep are shallow, and so is what is left of them.
-use Rattle.std.proofs.Common.{◌≡◌, ℕ, zero, suc, pred, ◌<◌, ◌≤◌, List, [], ◌∷◌, take, drop, arith}
+use Rattle.std.proofs.Common.{ℕ, zero, suc, pred, ◌<◌, ◌≤◌, [], ◌∷◌, take, drop, arith}
 use Rattle.std.specs.List.{fold}
 use Rattle.pt_parse_expr.specs.declared.alphabet.Mark.TheVariants.{Open, Close}
 use Rattle.pt_parse_expr.specs.declared.alphabet.Symbol.{Symbol}

@@ -1,5 +1,5 @@
 -- The turns of the loops that read item by item.
-use Rattle.std.proofs.Common.{◌≡◌, ℕ, ◌+◌, ◌<◌, ◌≤◌, List, [], ◌∷◌, ◌++◌, length, drop, Option, Some, None, Ok, refl, ap, ◌∙◌, sym, subst, arith}
+use Rattle.std.proofs.Common.{◌≡◌, ℕ, ◌+◌, ◌≤◌, List, [], ◌∷◌, ◌++◌, length, drop, Option, Some, None, Ok, sym, subst, arith}
 use Rattle.pt_parse_expr.specs.Grammar.{Symbols}
 use Rattle.pt_parse_expr.specs.Reader.{Reader, many}
 use Rattle.pt_parse_expr.specs.Placing.{Reads, Reaches, ReadsMany}

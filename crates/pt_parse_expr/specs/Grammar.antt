@@ -15,7 +15,7 @@
 -- After the manual's topics "Expression Syntax", "Arithmetic Operators" and "Comparison Functions and Operators". Parentheses and
 -- a leading plus make no node; `%`, MOD and the function MOD make the same one. No name stands before a parenthesis: since no
 -- rule has a parenthesis behind an expression, a word there is either the name of a function or the last of its expression.
-use Rattle.std.specs.Prelude.{◌≡◌, ℕ, ℤ, List, [], ◌∷◌, Bool, true, false, Option, Some, codes}
+use Rattle.std.specs.Prelude.{◌≡◌, ℕ, ℤ, List, [], ◌∷◌, Bool, true, false, Some, codes}
 use Rattle.std.specs.Str.{str_eq_ignore_ascii_case}
 use Rattle.pt_value.specs.Text.{day_of}
 use Rattle.pt_ast.specs.declared.tree.Cmp.{Cmp}

@@ -5,7 +5,6 @@ use Rattle.std.specs.declared.alloc.Global.{Global}
 use denote.Bor.{Bor}
 use Rattle.pt_ast.specs.declared.tree.Expr.{Expr}
 use Rattle.pt_ast.specs.declared.tree.Cond.{Cond}
-use Rattle.pt_ast.specs.declared.tree.Cond.TheVariants as cond
 use Rattle.pt_parse_expr.specs.declared.alphabet.Symbol.{Symbol}
 use Rattle.pt_parse_expr.specs.declared.alphabet.Symbol.TheVariants.{Fixed}
 use Rattle.pt_parse_expr.specs.declared.alphabet.Mark.TheVariants.{Close}

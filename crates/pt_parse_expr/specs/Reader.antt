@@ -1,7 +1,6 @@
 -- The longest reading, as functions on lists of symbols. (In the shape of the code.)
 use Rattle.std.specs.Prelude.{ℕ, zero, suc, List, [], ◌∷◌, length, Bool, true, false, Option, Some, None, nat_lt, if◌then◌else◌}
 use Rattle.pt_value.specs.Text.{day_of}
-use Rattle.pt_ast.specs.declared.tree.Cmp.{Cmp}
 use Rattle.pt_ast.specs.declared.tree.Op.{Op}
 use Rattle.pt_ast.specs.declared.tree.Op.TheVariants as op
 use Rattle.pt_ast.specs.declared.tree.Func.{Func}

@@ -1,5 +1,5 @@
 -- What symbols spell, and the longest reading from a place on.
-use Rattle.std.specs.Prelude.{◌≡◌, ◌≤◌, ℕ, List, [], length, slice_range}
+use Rattle.std.specs.Prelude.{◌≡◌, ◌≤◌, ℕ, [], length, slice_range}
 use Rattle.pt_ast.specs.declared.tree.Expr.{Expr}
 use Rattle.pt_ast.specs.declared.tree.Cond.{Cond}
 use Rattle.pt_parse_expr.specs.declared.fault.ParseFault.{ParseFault}

@@ -1,5 +1,5 @@
 -- What symbols a piece has: each token together with its bytes.
-use Rattle.std.specs.Prelude.{ℕ, ◌+◌, ◌-◌, ◌*◌, ◌^◌, Bool, true, false, if◌then◌else◌, ℤ, pos, min, List, [], ◌∷◌, map, length, slice_range, Option, Some, None, unwrap_or}
+use Rattle.std.specs.Prelude.{ℕ, ◌+◌, ◌-◌, ◌*◌, ◌^◌, if◌then◌else◌, pos, min, List, [], ◌∷◌, map, length, slice_range, Option, Some, None, unwrap_or}
 use Rattle.std.specs.List.{fold}
 use Rattle.std.specs.Str.{str_eq_ignore_ascii_case}
 use Rattle.pt_ast.specs.declared.tree.Func.{Func}

@@ -2,7 +2,6 @@ ghost use Rattle.std.specs.Prelude.{◌≡◌, ◌-◌, ◌≤◌, length, Conta
 ghost use Rattle.pt_token.specs.Placed.{AreQuoted, AreWordBytes, IsPlaced, signs};
 ghost use Rattle.pt_token.specs.Tokens.{IsLexed};
 ghost use Rattle.pt_token.specs.declared.token.TokenKind.TheVariants as kind;
-ghost use Rattle.pt_value.specs.Ident.{IsIdent};
 ghost use Rattle.pt_parse_expr.specs.Limits.{IsLong, name_length};
 ghost use Rattle.pt_parse_expr.specs.Symbols as spec;
 

@@ -9,6 +9,12 @@ use crate::alphabet::Mark;
 use crate::words;
 use pt_token::{Token, TokenKind};
 
+/// The most parentheses that may be open at once.
+pub(crate) const MOST_OPEN: usize = 64;
+
+/// The most characters that a name may have.
+const MOST_CHARACTERS: usize = 64;
+
 /// Whether more than 64 parentheses are open at once among the tokens of a piece. It takes no memory.
 pub fn deep(piece: &[u8], tokens: &Vec<Token>) -> bool
     requires lexed { IsLexed piece.now tokens.now.items }
@@ -17,7 +23,7 @@ pub fn deep(piece: &[u8], tokens: &Vec<Token>) -> bool
     let mut height = 0;
     for token in tokens {
         height = height_behind(piece, token, height);
-        if height > 64 {
+        if height > MOST_OPEN {
             return true;
         }
     }
@@ -37,6 +43,7 @@ fn height_behind(piece: &[u8], token: &Token, height: usize) -> usize
     }
 }
 
+/// The same, where the token is this sign.
 fn height_behind_sign(sign: &[u8], height: usize) -> usize
     requires low { height ≤ 64 }
     ensures { result ≡ open_after (spec.symbol_of kind.Sign sign.now) height }
@@ -52,7 +59,9 @@ fn height_behind_sign(sign: &[u8], height: usize) -> usize
 pub fn long(tokens: &Vec<Token>) -> bool
     ensures { IsTrue result ↔ IsLong tokens.now.items }
 {
-    tokens.iter().any(|token| name_length(token) > 64)
+    tokens
+        .iter()
+        .any(|token| name_length(token) > MOST_CHARACTERS)
 }
 
 /// How many characters a name has; 0 for other tokens.

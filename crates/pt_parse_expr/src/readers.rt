@@ -5,11 +5,9 @@ ghost use Rattle.pt_parse_expr.specs.Reader as spec;
 use crate::alphabet::Symbol;
 use crate::conds::cond_at;
 use crate::grammar::{Grammar, found};
+use crate::limits::MOST_OPEN;
 use pt_ast::{Cond, Expr};
 use std::alloc::{AllocError, Global};
-
-/// How many parentheses may be open at once.
-pub const MOST_OPEN: usize = 64;
 
 /// The longest expression from a symbol on, and the place of the next one; `None` where none is spelled there. Places count
 /// symbols. The time is linear in the symbols that are read.

@@ -1,5 +1,4 @@
 use Rattle.std.proofs.Common.{ℕ, ◌-◌, ◌<◌, ◌≤◌, List, length, get_or, All, sym, subst, arith, ◌≡◌}
-use Rattle.std.specs.Prelude.{Any}
 use Rattle.pt_token.specs.declared.token.Token.{Token}
 use Rattle.pt_token.specs.Placed.{IsPlaced}
 use Rattle.pt_token.proofs.Placed.{all_placed}

@@ -1,5 +1,4 @@
-use Rattle.std.proofs.Common.{◌≡◌, ℕ, ◌+◌, ◌<◌, List, length, get_or, refl, ap, ◌∙◌, sym, subst, arith}
-use Rattle.pt_token.specs.declared.token.Token.{Token}
+use Rattle.std.proofs.Common.{◌≡◌, ◌+◌, ◌<◌, length, get_or, refl, ap, ◌∙◌, sym, subst, arith}
 use Rattle.pt_token.specs.Placed.{IsPlaced}
 use Rattle.pt_token.proofs.Placed.{all_placed}
 use Rattle.pt_parse_expr.specs.Symbols.{symbols}
@@ -21,15 +20,15 @@ loop-token-preserved c =
     c.deref-token-items.ensures.value c.loop-token-test.true c.token-item.is s.invariant.height c.height_behind-height.ensures in
     record {
       height = height;
-      low = low_more (symbols c.args.piece.now c.args.tokens.now.items) s.token-index c.height_behind-height.result s.invariant.low height c.if-height-gt64.false;
+      low = low_more (symbols c.args.piece.now c.args.tokens.now.items) s.token-index c.height_behind-height.result s.invariant.low height c.if-height-gt-MOST_OPEN.false;
     }
 
-pub returns-then-height-gt64 : goal.returns-then-height-gt64
-returns-then-height-gt64 c =
+pub returns-then-height-gt-MOST_OPEN : goal.returns-then-height-gt-MOST_OPEN
+returns-then-height-gt-MOST_OPEN c =
     let s = c.loop-token in
     let height = height_more c.args.piece.now _ c.args.tokens.now.items s.token-index c.token-item.result s.height c.height_behind-height.result
     c.deref-token-items.ensures.value c.loop-token-test.true c.token-item.is s.invariant.height c.height_behind-height.ensures in
-    (λ _. (s.token-index + 1, omega (arith, height, c.if-height-gt64.true)), λ _. refl)
+    (λ _. (s.token-index + 1, omega (arith, height, c.if-height-gt-MOST_OPEN.true)), λ _. refl)
 
 pub returns : goal.returns
 returns c =

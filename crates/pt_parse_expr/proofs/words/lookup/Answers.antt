@@ -1,4 +1,4 @@
-use Rattle.std.proofs.Common.{◌≡◌, List, ℕ, ◌∙◌, sym, arith}
+use Rattle.std.proofs.Common.{◌∙◌, sym, arith}
 use Rattle.pt_parse_expr.proofs.Lookup.{lookup_found, lookup_more, lookup_end}
 use Rattle.pt_parse_expr.proofs.words.lookup.Goals as goal
 
