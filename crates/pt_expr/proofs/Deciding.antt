@@ -26,9 +26,10 @@ use Rattle.pt_expr.specs.declared.kind.CheckFault.TheVariants.{BadDate}
 use Rattle.pt_expr.specs.declared.found.Shape.{Shape}
 use Rattle.pt_expr.specs.declared.found.Shape.TheVariants as shape
 use Rattle.pt_expr.specs.Columns.{column_named}
-use Rattle.pt_expr.specs.Found.{Finding, after, all_found, beside, call_finding, column_finding, column_found, date_finding, finding, finding_step, fits_date, narrow, negation, number_found, other, product_finding, sum_finding, text_shape}
+use Rattle.pt_expr.specs.Found.{Finding, after, all_found, beside, call_finding, column_finding, column_found, date_finding, finding, finding_step, narrow, negation, number_found, other, product_finding, sum_finding, text_shape}
+use Rattle.pt_value.specs.Fits.{fits_date}
 use Rattle.pt_expr.specs.FoundCond.{Verdict, alike_verdict, all_verdict, checked_cond, is_day, verdict_step}
-use Rattle.pt_expr.specs.Spelled.{spelled_day}
+use Rattle.pt_value.specs.Text.{day_of}
 use Rattle.pt_expr.specs.Stepping.{among_rest, is_day_column, is_day_kind, names_date}
 use Rattle.pt_expr.specs.Truths.{among, among_truth, are_dates, equals, is_date, is_null, negated, operand, truth, truth_step}
 use Rattle.pt_expr.proofs.Gathering.{drop_at_item}
@@ -78,7 +79,7 @@ mapped columns x = map-Expr Expr Finding (finding columns) x
 layer_is_date : (columns : List Column) (x : Expr-F Expr) → IsOk (finding_step columns (mapped columns x)) → names_date columns x ≡ is_date (finding_step columns (mapped columns x))
 unfolding mapped
 layer_is_date columns (Expr-F.Number n) h = numeric_no_date _ (numeric_after (narrow (unsigned_abs n)) (λ bound. Ok (number_found bound)) number_numeric)
-layer_is_date columns (Expr-F.Text bytes) h = text_no_date (spelled_day bytes)
+layer_is_date columns (Expr-F.Text bytes) h = text_no_date (day_of bytes)
 layer_is_date columns (Expr-F.Hex bytes) h = refl
 layer_is_date columns (Expr-F.Date day) h = date_is_date day h
 layer_is_date columns Expr-F.Null h = refl

@@ -16,13 +16,14 @@ use Rattle.pt_expr.specs.declared.kind.CheckFault.TheVariants.{BadDate}
 use Rattle.pt_expr.specs.declared.found.Shape.{Shape}
 use Rattle.pt_expr.specs.declared.found.Shape.TheVariants as shape
 use Rattle.pt_expr.specs.Agrees.{Agrees, AgreesBy, IsDayText}
-use Rattle.pt_expr.specs.Found.{Finding, after, all_found, beside, call_finding, checked, column_finding, column_found, date_finding, finding, finding_step, fits_date, kind_finding, kind_of, narrow, negation, number_found, other, product_finding, sum_finding, text_shape}
+use Rattle.pt_expr.specs.Found.{Finding, after, all_found, beside, call_finding, checked, column_finding, column_found, date_finding, finding, finding_step, kind_finding, kind_of, narrow, negation, number_found, other, product_finding, sum_finding, text_shape}
+use Rattle.pt_value.specs.Fits.{fits_date}
 use Rattle.pt_expr.specs.Columns.{column_named}
 use Rattle.pt_expr.specs.Kinds.{HasKind}
-use Rattle.pt_expr.specs.Spelled.{spelled_day}
+use Rattle.pt_value.specs.Text.{day_of}
 use Rattle.pt_expr.specs.Values.{as_day, day_or_null, wanted}
 use Rattle.pt_expr.proofs.Numbers.{IsNumeric, call_numeric, is_number, negation_numeric, number_numeric, numeric_after, product_numeric, sum_numeric}
-use Rattle.pt_expr.proofs.Spelling.{spelled_day_sound}
+use Rattle.pt_value.proofs.Spelled.{day_of-spells}
 
 -- ---- only a text is found to be one
 
@@ -107,10 +108,10 @@ spelled_kind : (v : Value) → IsDayText v → HasKind expr.Day (as_day v)
 spelled_kind value.Null a = absurd a
 spelled_kind (value.Int n) a = absurd a
 spelled_kind (value.Day day) a = absurd a
-spelled_kind (value.Bytes bytes) a = by_day (spelled_day bytes) refl
+spelled_kind (value.Bytes bytes) a = by_day (day_of bytes) refl
   where
-    by_day : (o : Option ℤ) → spelled_day bytes ≡ o → HasKind expr.Day (day_or_null o)
-    by_day (Some day) e = let spelled = spelled_day_sound bytes day e in spelled.fits
+    by_day : (o : Option ℤ) → day_of bytes ≡ o → HasKind expr.Day (day_or_null o)
+    by_day (Some day) e = let spelled = day_of-spells bytes day e in spelled.fits
     by_day None e = tt
 
 -- no date is wanted
@@ -164,7 +165,7 @@ of_layer : (columns : List Column) (x : Expr-F Expr) (v : Value) (date : Bool) �
     → IfOk (after (finding_step columns (mapped columns x)) (λ found. kind_finding date found.shape)) (λ kind. HasKind kind (wanted date x v))
 unfolding mapped
 of_layer columns (Expr-F.Number n) v date a = of_node (Expr-F.Number n) _ v date refl (numeric_none _ (numeric_after (narrow (unsigned_abs n)) (λ bound. Ok (number_found bound)) number_numeric)) a
-of_layer columns (Expr-F.Text bytes) v date a = of_text (spelled_day bytes) v date bytes a
+of_layer columns (Expr-F.Text bytes) v date a = of_text (day_of bytes) v date bytes a
 of_layer columns (Expr-F.Hex bytes) v date a = of_node (Expr-F.Hex bytes) _ v date refl bytes_none a
 of_layer columns (Expr-F.Date day) v date a = of_node (Expr-F.Date day) _ v date refl (date_none day) a
 of_layer columns Expr-F.Null v date a = of_node Expr-F.Null _ v date refl null_none a

@@ -19,20 +19,21 @@ use Rattle.pt_expr.specs.declared.found.Shape.TheVariants as shape
 use Rattle.pt_expr.specs.declared.found.Found.{Found}
 use Rattle.pt_expr.specs.Agrees.{Agrees, AgreesBy, FitsDay, FitsWide, IsBytes, IsDay, IsDayText, IsJust, IsNull, IsWithin}
 use Rattle.pt_expr.specs.Columns.{AreFitting, cell_named, column_named, is_named}
-use Rattle.pt_expr.specs.Found.{Finding, absolute, after, call_finding, column_finding, column_found, date_finding, day_part, fits_date, may_be_wide, negated, negation, number_finding, number_found, other, signed, text_shape, wide}
-use Rattle.pt_expr.specs.Spelled.{spelled_day}
+use Rattle.pt_expr.specs.Found.{Finding, absolute, after, call_finding, column_finding, column_found, date_finding, day_part, may_be_wide, negated, negation, number_finding, number_found, other, signed, text_shape, wide}
+use Rattle.pt_value.specs.Fits.{fits_date}
+use Rattle.pt_value.specs.Text.{day_of}
 use Rattle.pt_expr.specs.Values.{as_day, call, day_or_null, on_day, on_number, part_of_day}
 use Rattle.pt_expr.proofs.Magnitudes.{abs-neg, fits_within, wide_within}
 use Rattle.std.proofs.lemmas.List.{drop_more}
 use Rattle.pt_expr.proofs.Gathering.{drop_at_item}
-use Rattle.pt_expr.proofs.Spelling.{spelled_day_sound}
+use Rattle.pt_value.proofs.Spelled.{day_of-spells}
 
 -- ---- without parts
 
-pub text_agrees : (bytes : List ℕ) → Agrees (other (text_shape (spelled_day bytes))) (value.Bytes bytes)
-text_agrees bytes = by_day (spelled_day bytes) refl
+pub text_agrees : (bytes : List ℕ) → Agrees (other (text_shape (day_of bytes))) (value.Bytes bytes)
+text_agrees bytes = by_day (day_of bytes) refl
   where
-    by_day : (o : Option ℤ) → spelled_day bytes ≡ o → Agrees (other (text_shape o)) (value.Bytes bytes)
+    by_day : (o : Option ℤ) → day_of bytes ≡ o → Agrees (other (text_shape o)) (value.Bytes bytes)
     by_day (Some day) e = record { by = ap is_some e; narrow = omega arith }
     by_day None e = record { by = tt; narrow = omega arith }
 
@@ -177,10 +178,10 @@ text_day : (f : ℤ → ℤ) (n : ℕ) (v : Value) → IsPart f n → IsDayText 
 text_day f n value.Null p h = absurd h
 text_day f n (value.Int k) p h = absurd h
 text_day f n (value.Day day) p h = absurd h
-text_day f n (value.Bytes bytes) p h = by_day (spelled_day bytes) refl
+text_day f n (value.Bytes bytes) p h = by_day (day_of bytes) refl
   where
-    by_day : (o : Option ℤ) → spelled_day bytes ≡ o → IsWithin n (on_day f (day_or_null o))
-    by_day (Some day) e = let spelled = spelled_day_sound bytes day e in p.within day spelled.fits
+    by_day : (o : Option ℤ) → day_of bytes ≡ o → IsWithin n (on_day f (day_or_null o))
+    by_day (Some day) e = let spelled = day_of-spells bytes day e in p.within day spelled.fits
     by_day None e = tt
 
 part_agrees : (f : ℤ → ℤ) (n : ℕ) (s : Shape) (b : ℕ) (v : Value) → IsPart f n → AgreesBy s b v → IfOk (day_part n s) (λ found. Agrees found (on_day f (as_day v)))

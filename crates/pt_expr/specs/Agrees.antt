@@ -9,7 +9,7 @@ use Rattle.pt_ast.specs.declared.tree.Op.TheVariants as op
 use Rattle.pt_expr.specs.declared.found.Shape.{Shape}
 use Rattle.pt_expr.specs.declared.found.Shape.TheVariants as shape
 use Rattle.pt_expr.specs.declared.found.Found.{Found}
-use Rattle.pt_expr.specs.Spelled.{spelled_day}
+use Rattle.pt_value.specs.Text.{day_of}
 
 abbrev pub IsNull : Value → Type 0
 IsNull value.Null = Unit {0}
@@ -32,7 +32,7 @@ IsDay (value.Day day) = FitsDate day
 IsDay _ = ⊥
 
 abbrev pub IsDayText : Value → Type 0
-IsDayText (value.Bytes bytes) = IsSome (spelled_day bytes)
+IsDayText (value.Bytes bytes) = IsSome (day_of bytes)
 IsDayText _ = ⊥
 
 abbrev pub IsBytes : Value → Type 0

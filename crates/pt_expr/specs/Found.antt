@@ -1,7 +1,8 @@
 -- What an expression is found to be, or its first fault. Faults come from left to right, at each node those of its parts first,
 -- then BadDate, then Mismatch, and TooWide last.
-use Rattle.std.specs.Prelude.{ℕ, ◌-◌, ◌*◌, ◌^◌, ℤ, pos, neg_ℤ, unsigned_abs, Bool, true, false, not, ◌&&◌, ◌==◌, nat_lt, int_le, if◌then◌else◌, List, [], ◌∷◌, map, sum_by, Option, Some, None, Result, Ok, Err}
+use Rattle.std.specs.Prelude.{ℕ, ◌-◌, ◌*◌, ◌^◌, ℤ, unsigned_abs, Bool, true, false, not, ◌&&◌, ◌==◌, nat_lt, if◌then◌else◌, List, [], ◌∷◌, map, sum_by, Option, Some, None, Result, Ok, Err}
 use Rattle.std.specs.List.{list_all}
+use Rattle.pt_value.specs.Fits.{fits_date}
 use Rattle.pt_value.specs.declared.value.Kind.{Kind}
 use Rattle.pt_value.specs.declared.value.Kind.TheVariants as kind
 use Rattle.pt_ast.specs.declared.table.Column.{Column}
@@ -19,7 +20,7 @@ use Rattle.pt_expr.specs.declared.found.Shape.{Shape}
 use Rattle.pt_expr.specs.declared.found.Shape.TheVariants as shape
 use Rattle.pt_expr.specs.declared.found.Found.{Found}
 use Rattle.pt_expr.specs.Columns.{column_named}
-use Rattle.pt_expr.specs.Spelled.{spelled_day}
+use Rattle.pt_value.specs.Text.{day_of}
 
 -- ---- findings
 
@@ -88,10 +89,6 @@ number_finding n = after (narrow (unsigned_abs n)) (λ bound. Ok (number_found b
 abbrev pub text_shape : Option ℤ → Shape
 text_shape (Some day) = shape.DayText
 text_shape None = shape.OtherText
-
--- from 1000-01-01 to 9999-12-31
-abbrev pub fits_date : ℤ → Bool
-fits_date day = int_le (neg_ℤ (pos 354_285)) day && int_le day (pos 2_932_896)
 
 abbrev pub date_finding : Option ℤ → Finding
 date_finding (Some day) = if fits_date day then Ok (other shape.Day) else Err BadDate
@@ -174,7 +171,7 @@ beside op part = after part (λ found. Ok (op, found))
 -- a node, from what its parts are found to be
 abbrev pub finding_step : List Column → Expr-F Finding → Finding
 finding_step columns (Expr-F.Number n) = number_finding n
-finding_step columns (Expr-F.Text bytes) = Ok (other (text_shape (spelled_day bytes)))
+finding_step columns (Expr-F.Text bytes) = Ok (other (text_shape (day_of bytes)))
 finding_step columns (Expr-F.Hex bytes) = Ok (other shape.Bytes)
 finding_step columns (Expr-F.Date day) = date_finding day
 finding_step columns Expr-F.Null = Ok (other shape.Null)

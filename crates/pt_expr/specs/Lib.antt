@@ -1,10 +1,8 @@
-pub mod Spelled
 pub mod Columns
 pub mod Found
 pub mod FoundCond
 pub mod Values
 pub mod Kinds
 pub mod Truths
-pub mod Laws
 pub mod Stepping
 pub mod Agrees

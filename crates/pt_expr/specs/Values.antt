@@ -12,7 +12,7 @@ use Rattle.pt_ast.specs.declared.tree.Expr.{Expr, fold-Expr}
 use Rattle.pt_ast.specs.declared.tree.Expr.TheViews.{out-Expr}
 use Rattle.pt_ast.specs.declared.tree.Expr.TheOpen.{Expr-F}
 use Rattle.pt_expr.specs.Columns.{cell_named}
-use Rattle.pt_expr.specs.Spelled.{spelled_day}
+use Rattle.pt_value.specs.Text.{day_of}
 
 -- ---- arithmetic: NULL where an operand is
 
@@ -45,7 +45,7 @@ day_or_null None = Null
 
 -- bytes that stand for a date are its day
 abbrev pub as_day : Value → Value
-as_day (Bytes bytes) = day_or_null (spelled_day bytes)
+as_day (Bytes bytes) = day_or_null (day_of bytes)
 as_day value = value
 
 abbrev pub on_day : (ℤ → ℤ) → Value → Value

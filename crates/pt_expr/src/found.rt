@@ -1,6 +1,6 @@
 ghost use Rattle.std.specs.Prelude.{◌≡◌, Ok};
 ghost use Rattle.pt_expr.specs.Found.{is_literal, kind_finding, kind_of, may_be_bytes, may_be_day, may_be_wide, other, signed, text_shape, wide};
-ghost use Rattle.pt_expr.specs.Spelled.{spelled_day};
+ghost use Rattle.pt_value.specs.Text.{day_of};
 
 use crate::{CheckFault, ExprKind};
 

@@ -7,7 +7,6 @@
 //!   computes with whole numbers of any size. The code has 128 bits, and nothing overflows: each number is within the bound that
 //!   the check found, below 2^126.
 //! - `truth` tells what a well-typed condition is of a row, in three values (`truth`).
-//! - `spelled_days` is a theorem: the day that a text stands for is the one that it spells.
 //!
 //! A column is the first one of its name, but for the case of ASCII letters. None of the calls takes memory; each calls itself
 //! once for each level of its tree. It stands on `pt_value` and `pt_ast`.
@@ -16,7 +15,6 @@
 mod columns;
 mod found;
 mod kind;
-mod laws;
 mod operands;
 mod running;
 mod truths;
@@ -25,7 +23,6 @@ mod typing_cond;
 mod values;
 
 pub use kind::{CheckFault, ExprKind};
-pub use laws::spelled_days;
 pub use truths::truth;
 pub use typing::check;
 pub use typing_cond::check_cond;

@@ -1,7 +1,8 @@
 ghost use Rattle.std.specs.Prelude.{◌≡◌, unsigned_abs, Ok, Err};
-ghost use Rattle.pt_expr.specs.Found.{after, call_finding, checked, column_finding, column_found, date_finding, day_part, finding, fits_date, negation, number_finding, text_shape, absolute};
+ghost use Rattle.pt_expr.specs.Found.{after, call_finding, checked, column_finding, column_found, date_finding, day_part, finding, negation, number_finding, text_shape, absolute};
+ghost use Rattle.pt_value.specs.Fits.{fits_date};
 ghost use Rattle.pt_expr.specs.Columns.{column_named};
-ghost use Rattle.pt_expr.specs.Spelled.{spelled_day};
+ghost use Rattle.pt_value.specs.Text.{day_of};
 
 use crate::columns::column_named;
 use crate::found::{Found, Shape};
@@ -62,7 +63,7 @@ fn number(n: i128) -> Result<Found, CheckFault>
 }
 
 fn text_shape(bytes: &[u8]) -> Shape
-    ensures { result ≡ text_shape (spelled_day bytes.now) }
+    ensures { result ≡ text_shape (day_of bytes.now) }
 {
     match day_of_text(bytes) {
         Some(_) => Shape::DayText,

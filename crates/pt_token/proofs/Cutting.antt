@@ -6,11 +6,14 @@ use Rattle.std.proofs.lemmas.Bool.{cases_Bool, eqb-true, false≢true}
 use Rattle.pt_token.specs.declared.state.State.{State}
 use Rattle.pt_token.specs.declared.state.State.TheVariants.{Plain, Quote, Escaped, Dash, Dashes, Line, Slash, Opened, Block, Star, Version, Read, ReadStar, ReadQuote, ReadEscaped}
 use Rattle.pt_token.specs.Bytes.{is_white, is_digit}
-use Rattle.pt_token.specs.Machine.{from_plain, from_block, from_read, after_version, step, is_plain, is_outside, is_cut}
+use Rattle.pt_token.specs.Machine.{closing, from_plain, from_block, from_read, after_version, step, is_plain, is_outside, is_cut}
 use Rattle.pt_token.specs.Pieces.{cut_in}
-use Rattle.pt_token.specs.Gap.{closing}
+use Rattle.pt_token.specs.Ends.{line_end, quote_end}
+use Rattle.pt_token.specs.Gap.{opened_end}
 use Rattle.pt_token.specs.Outside.{behind_dash, behind_slash, behind_first, IsCutAt, here, later}
-use Rattle.pt_token.proofs.Loops.{moved}
+use Rattle.pt_token.proofs.Loops.{moved, moved-one, suc-moved}
+use Rattle.pt_token.proofs.Ending.{line-ends, quote-ends}
+use Rattle.pt_token.proofs.Opening.{opened-ends}
 
 plain_is : (s : State) → is_plain s ≡ true → s ≡ Plain
 plain_is Plain e = refl
@@ -78,14 +81,6 @@ abbrev behind : Option ℕ → List ℕ → Option ℕ
 behind None bytes = None
 behind (Some n) bytes = moved n (cut_in Plain (drop n bytes))
 
-moved-one : (cut : Option ℕ) → option_map suc cut ≡ moved 1 cut
-moved-one None = refl
-moved-one (Some n) = ap Some (omega arith)
-
-suc-moved : (n : ℕ) (cut : Option ℕ) → option_map suc (moved n cut) ≡ moved (suc n) cut
-suc-moved n None = refl
-suc-moved n (Some k) = ap Some (omega arith)
-
 suc-behind : (end : Option ℕ) (b : ℕ) (bytes : List ℕ) → option_map suc (behind end bytes) ≡ behind (option_map suc end) (b ∷ bytes)
 suc-behind None b bytes = refl
 suc-behind (Some n) b bytes = suc-moved n (cut_in Plain (drop n bytes))
@@ -102,6 +97,16 @@ cut-closing [] s inside = refl
 cut-closing (b ∷ bytes) s inside =
     step-other s b bytes (not_inside s b inside)
     ∙ closing-byte (step s b) b bytes (is_plain (step s b)) refl (λ other. cut-closing bytes (step s b) (stays_in s b inside other))
+
+-- the same by the ends that are told without the machine
+cut-line : (bytes : List ℕ) → cut_in Line bytes ≡ behind (line_end bytes) bytes
+cut-line bytes = cut-closing bytes Line refl ∙ ap (λ end. behind end bytes) (line-ends bytes)
+
+cut-quote : (mark : ℕ) (bytes : List ℕ) → cut_in (Quote mark) bytes ≡ behind (quote_end mark false bytes) bytes
+cut-quote mark bytes = cut-closing bytes (Quote mark) refl ∙ ap (λ end. behind end bytes) (quote-ends mark false bytes)
+
+cut-opened : (bytes : List ℕ) → cut_in Opened bytes ≡ behind (opened_end bytes) bytes
+cut-opened bytes = cut-closing bytes Opened refl ∙ ap (λ end. behind end bytes) (opened-ends bytes)
 
 -- `--` without white space behind it is two bytes like others
 step-dashes : (b : ℕ) → is_white b ≡ false → step Dashes b ≡ step Dash b
@@ -135,10 +140,10 @@ behind-zero bytes = elim (cut_in Plain bytes) as (λ cut. cut ≡ moved 0 cut) [
 two_dashes : (bytes : List ℕ) → cut_in Dash (45 ∷ bytes) ≡ behind (behind_dash (45 ∷ bytes)) (45 ∷ bytes)
 unfolding cut_in
 two_dashes bytes = elim (cases_Bool (is_white (slice_index bytes 0))) [
-  | inl e ↦ ap (option_map suc) (cut-white bytes e ∙ cut-closing bytes Line refl) ∙ suc-behind (closing Line bytes) 45 bytes
-      ∙ ap (λ v. behind (cond v (option_map suc (closing Line bytes)) (Some 0)) (45 ∷ bytes)) (sym e)
+  | inl e ↦ ap (option_map suc) (cut-white bytes e ∙ cut-line bytes) ∙ suc-behind (line_end bytes) 45 bytes
+      ∙ ap (λ v. behind (cond v (option_map suc (line_end bytes)) (Some 0)) (45 ∷ bytes)) (sym e)
   | inr e ↦ ap (option_map suc) (cut-dashes bytes e) ∙ behind-zero (45 ∷ bytes)
-      ∙ ap (λ v. behind (cond v (option_map suc (closing Line bytes)) (Some 0)) (45 ∷ bytes)) (sym e)
+      ∙ ap (λ v. behind (cond v (option_map suc (line_end bytes)) (Some 0)) (45 ∷ bytes)) (sym e)
 ]
 
 cut-dash : (bytes : List ℕ) → cut_in Dash bytes ≡ behind (behind_dash bytes) bytes
@@ -146,7 +151,7 @@ unfolding cut_in
 cut-dash [] = refl
 cut-dash (c ∷ bytes) = elim (cases_Bool (c == 45)) [
   | inr e ↦ ap (λ v. cond (c == 59 && true) (Some 0) (option_map suc (cut_in (cond v Dashes (from_plain c)) bytes))) e
-      ∙ behind-zero (c ∷ bytes) ∙ ap (λ v. behind (cond (v && is_white (slice_index bytes 0)) (option_map suc (closing Line bytes)) (Some 0)) (c ∷ bytes)) (sym e)
+      ∙ behind-zero (c ∷ bytes) ∙ ap (λ v. behind (cond (v && is_white (slice_index bytes 0)) (option_map suc (line_end bytes)) (Some 0)) (c ∷ bytes)) (sym e)
   | inl e ↦ subst (λ n. cut_in Dash (n ∷ bytes) ≡ behind (behind_dash (n ∷ bytes)) (n ∷ bytes)) (sym (eqb-true c 45 e)) (two_dashes bytes)
 ]
 
@@ -155,19 +160,19 @@ unfolding cut_in
 cut-slash [] = refl
 cut-slash (c ∷ bytes) = elim (cases_Bool (c == 42)) [
   | inr e ↦ ap (λ v. cond (c == 59 && true) (Some 0) (option_map suc (cut_in (cond v Opened (from_plain c)) bytes))) e
-      ∙ behind-zero (c ∷ bytes) ∙ ap (λ v. behind (cond v (option_map suc (closing Opened bytes)) (Some 0)) (c ∷ bytes)) (sym e)
+      ∙ behind-zero (c ∷ bytes) ∙ ap (λ v. behind (cond v (option_map suc (opened_end bytes)) (Some 0)) (c ∷ bytes)) (sym e)
   | inl e ↦ subst (λ n. cut_in Slash (n ∷ bytes) ≡ behind (behind_slash (n ∷ bytes)) (n ∷ bytes)) (sym (eqb-true c 42 e))
-      (ap (option_map suc) (cut-closing bytes Opened refl) ∙ suc-behind (closing Opened bytes) 42 bytes)
+      (ap (option_map suc) (cut-opened bytes) ∙ suc-behind (opened_end bytes) 42 bytes)
 ]
 
 first_state : (b : ℕ) (bytes : List ℕ) → cut_in (from_plain b) bytes ≡ behind (behind_first b bytes) bytes
 first_state b bytes =
     elim (b == 39 || b == 34) as (λ v. cut_in (cond v (Quote b) (cond (b == 35) Line (cond (b == 45) Dash (cond (b == 47) Slash Plain)))) bytes
-    ≡ behind (cond v (closing (Quote b) bytes) (cond (b == 35) (closing Line bytes) (cond (b == 45) (behind_dash bytes) (cond (b == 47) (behind_slash bytes) (Some 0))))) bytes) [
-      | true ↦ cut-closing bytes (Quote b) refl
+    ≡ behind (cond v (quote_end b false bytes) (cond (b == 35) (line_end bytes) (cond (b == 45) (behind_dash bytes) (cond (b == 47) (behind_slash bytes) (Some 0))))) bytes) [
+      | true ↦ cut-quote b bytes
       | false ↦ elim (b == 35) as (λ v. cut_in (cond v Line (cond (b == 45) Dash (cond (b == 47) Slash Plain))) bytes
-          ≡ behind (cond v (closing Line bytes) (cond (b == 45) (behind_dash bytes) (cond (b == 47) (behind_slash bytes) (Some 0)))) bytes) [
-            | true ↦ cut-closing bytes Line refl
+          ≡ behind (cond v (line_end bytes) (cond (b == 45) (behind_dash bytes) (cond (b == 47) (behind_slash bytes) (Some 0)))) bytes) [
+            | true ↦ cut-line bytes
             | false ↦ elim (b == 45) as (λ v. cut_in (cond v Dash (cond (b == 47) Slash Plain)) bytes ≡ behind (cond v (behind_dash bytes) (cond (b == 47) (behind_slash bytes) (Some 0))) bytes) [
               | true ↦ cut-dash bytes
               | false ↦ elim (b == 47) as (λ v. cut_in (cond v Slash Plain) bytes ≡ behind (cond v (behind_slash bytes) (Some 0)) bytes) [

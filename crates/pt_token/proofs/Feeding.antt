@@ -9,7 +9,7 @@ use Rattle.pt_token.specs.Laws.{fed_pieces}
 use Rattle.pt_token.proofs.Loops.{run-push}
 
 -- the pieces behind a cut, or behind the bytes where there is none
-abbrev goes_on : Option ℕ → List ℕ → List ℕ → List ℕ → List (List ℕ)
+abbrev pub goes_on : Option ℕ → List ℕ → List ℕ → List ℕ → List (List ℕ)
 goes_on None piece bytes rest = pieces_after (piece ++ bytes) rest
 goes_on (Some place) piece bytes rest = (piece ++ take place bytes) ∷ pieces_after [] (drop (place + 1) bytes ++ rest)
 
@@ -20,7 +20,7 @@ goes_on-byte (Some place) piece b bytes rest =
     ap (λ p. p ∷ pieces_after [] (drop (place + 1) bytes ++ rest)) (append_assoc piece (b ∷ []) (take place bytes))
     ∙ ap (λ n. (piece ++ take (suc place) (b ∷ bytes)) ∷ pieces_after [] (drop n (b ∷ bytes) ++ rest)) later
 
-pieces-goes_on : (piece bytes rest : List ℕ) → pieces_after piece (bytes ++ rest) ≡ goes_on (cut_in (run Plain piece) bytes) piece bytes rest
+pub pieces-goes_on : (piece bytes rest : List ℕ) → pieces_after piece (bytes ++ rest) ≡ goes_on (cut_in (run Plain piece) bytes) piece bytes rest
 unfolding pieces_after cut_in
 pieces-goes_on piece [] rest = ap (λ p. pieces_after p rest) (sym (append-nil piece))
 pieces-goes_on piece (b ∷ bytes) rest =

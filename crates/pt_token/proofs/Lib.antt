@@ -3,6 +3,10 @@ pub mod Blanks
 pub mod Steps
 pub mod Feeding
 pub mod BlankTokens
-pub mod Cutting
 pub mod Ending
+pub mod Opening
+pub mod Cutting
+pub mod Parting
 pub mod Limits
+pub mod Placed
+pub mod Sizes

@@ -9,7 +9,7 @@ use Rattle.pt_token.specs.declared.state.State.{State}
 use Rattle.pt_token.specs.declared.state.State.TheVariants.{Plain}
 use Rattle.pt_token.specs.Machine.{step, is_plain, is_cut, run}
 use Rattle.pt_token.specs.Pieces.{cut_in}
-use Rattle.pt_token.specs.Gap.{closing}
+use Rattle.pt_token.specs.Machine.{closing}
 use Rattle.pt_token.specs.declared.quoting.Quoting.{Quoting}
 use Rattle.pt_token.specs.Quoting.{added, behind_byte, content, ends, hex_bytes, hex_value, is_marked, text_end}
 
@@ -25,6 +25,14 @@ moved-zero (Some n) = ap Some (omega arith)
 pub moved-suc : (i : ℕ) (o : Option ℕ) → moved i (option_map suc o) ≡ moved (i + 1) o
 moved-suc i None = refl
 moved-suc i (Some n) = ap Some (omega arith)
+
+pub suc-moved : (i : ℕ) (o : Option ℕ) → option_map suc (moved i o) ≡ moved (suc i) o
+suc-moved i None = refl
+suc-moved i (Some n) = ap Some (omega arith)
+
+pub moved-one : (o : Option ℕ) → option_map suc o ≡ moved 1 o
+moved-one None = refl
+moved-one (Some n) = ap Some (omega arith)
 
 pub closing-byte : (s : State) (bytes : List ℕ) (i : ℕ) → i < length bytes
     → closing s (drop i bytes) ≡ cond (is_plain (step s (get_or bytes i 0))) (Some 1) (option_map suc (closing (step s (get_or bytes i 0)) (drop (i + 1) bytes)))

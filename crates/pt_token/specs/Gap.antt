@@ -1,24 +1,16 @@
 -- White space and comments. In a comment that is read, as in `/*!50100 .. */`, only white space and its end are such.
-use Rattle.std.specs.Prelude.{◌≡◌, ℕ, suc, ◌+◌, ◌-◌, ◌*◌, Bool, true, false, ◌&&◌, ◌||◌, ◌==◌, nat_le, nat_eq, if◌then◌else◌, List, [], ◌∷◌, length, drop, codes, slice_index, Option, Some, None, unwrap_or}
+use Rattle.std.specs.Prelude.{◌≡◌, ℕ, ◌+◌, ◌-◌, ◌*◌, Bool, true, false, ◌&&◌, ◌||◌, ◌==◌, nat_le, nat_eq, if◌then◌else◌, List, [], length, drop, codes, slice_index, Option, Some, None, unwrap_or}
 use Rattle.std.specs.List.{fold, starts_with}
-use Rattle.std.specs.Option.{option_map}
-use Rattle.pt_token.specs.declared.state.State.{State}
-use Rattle.pt_token.specs.declared.state.State.TheVariants.{Line, Opened}
 use Rattle.pt_token.specs.declared.comment.Comment.{Comment}
 use Rattle.pt_token.specs.declared.comment.Comment.TheVariants.{Plain, Read, Malformed}
 use Rattle.pt_token.specs.declared.gap.Gap.{Gap}
 use Rattle.pt_token.specs.declared.bytes.Class.TheVariants.{Digit}
 use Rattle.pt_token.specs.Bytes.{front, is_white}
-use Rattle.pt_token.specs.Machine.{step, is_plain}
-
--- How many bytes what is open goes on for, with its end. None where it has no end among these.
-unfoldable pub closing : State → List ℕ → Option ℕ
-closing s [] = None
-closing s (b ∷ bytes) = if is_plain (step s b) then Some 1 else option_map suc (closing (step s b) bytes)
+use Rattle.pt_token.specs.Ends.{line_end, comment_end, read_end}
 
 -- how many bytes there are to the line's end, with its line feed
 abbrev pub line : List ℕ → ℕ
-line bytes = unwrap_or (closing Line bytes) (length bytes)
+line bytes = unwrap_or (line_end bytes) (length bytes)
 
 -- the number that digits write
 abbrev pub number : List ℕ → ℕ
@@ -33,6 +25,17 @@ by_digits ds =
 -- what kind of a comment it is, by the bytes behind `/*`
 unfoldable pub kind : List ℕ → Comment
 kind bytes = if slice_index bytes 0 == 33 then by_digits (front Digit (drop 1 bytes)) else Plain
+
+-- How many bytes a comment of that kind has behind its `/*`, with its end. What belongs to the opener of one that is read is
+-- passed over.
+abbrev pub end_of : Comment → List ℕ → Option ℕ
+end_of Plain bytes = comment_end bytes
+end_of (Read n) bytes = read_end n bytes
+end_of Malformed bytes = comment_end bytes
+
+-- how many bytes there are behind `/*` up to and with the comment's end; None where it is open to the end
+unfoldable pub opened_end : List ℕ → Option ℕ
+opened_end bytes = end_of (kind bytes) bytes
 
 -- the bytes behind the `/*` that belong to the opener of a comment that is read
 abbrev pub opener : Comment → ℕ
@@ -59,7 +62,7 @@ gap_outside bytes =
     if is_white (slice_index bytes 0) then Some (gap_of 1 false)
     else (if slice_index bytes 0 == 35 then Some (gap_of (line (drop 1 bytes) + 1) false)
     else (if is_dashes bytes then Some (gap_of (line (drop 2 bytes) + 2) false)
-    else (if starts_with nat_eq bytes (codes "/*") then comment_gap (kind (drop 2 bytes)) (closing Opened (drop 2 bytes)) else None)))
+    else (if starts_with nat_eq bytes (codes "/*") then comment_gap (kind (drop 2 bytes)) (opened_end (drop 2 bytes)) else None)))
 
 -- the same within a comment that is read: white space, or its end
 abbrev pub gap_inside : List ℕ → Option Gap

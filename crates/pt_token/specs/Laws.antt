@@ -1,12 +1,13 @@
 -- What holds of the definitions themselves.
-use Rattle.std.specs.Prelude.{◌≡◌, ◌↔◌, ℕ, ◌<◌, ◌≤◌, true, if◌then◌else◌, is_some, List, [], ◌∷◌, ◌++◌, length, drop, Some}
+use Rattle.std.specs.Prelude.{◌≡◌, ◌↔◌, ℕ, ◌<◌, ◌≤◌, true, if◌then◌else◌, is_some, List, [], ◌∷◌, ◌++◌, length, drop, Some, false}
 use Rattle.std.specs.List.{list_all}
-use Rattle.pt_token.specs.declared.state.State.TheVariants.{Plain}
-use Rattle.pt_token.specs.Ends.{EndsAreFirst}
-use Rattle.pt_token.specs.Outside.{IsCutAt}
+use Rattle.pt_token.specs.declared.state.State.TheVariants.{Plain, Quote, Line, Opened, Block, Read}
+use Rattle.pt_token.specs.Ends.{line_end, quote_end, comment_end, read_end}
+use Rattle.pt_token.specs.Outside.{ArePieces, IsCutAt}
 use Rattle.pt_token.specs.Pieces.{cut_in, cuts, fits, most_piece, most_script, pieces, pieces_after, used_by}
 use Rattle.pt_token.specs.Splitting.{next_cut, piece_after}
-use Rattle.pt_token.specs.Gap.{IsBlank}
+use Rattle.pt_token.specs.Gap.{IsBlank, opened_end}
+use Rattle.pt_token.specs.Machine.{closing}
 use Rattle.pt_token.specs.Tokens.{IsLexed}
 
 -- what one feed leaves to be read
@@ -41,6 +42,18 @@ BlankHasNoToken = (piece : List ℕ) → IsBlank piece ↔ IsLexed piece []
 abbrev pub CutsOutside : Type 0
 CutsOutside = (bytes : List ℕ) (place : ℕ) → (cut_in Plain bytes ≡ Some place) ↔ IsCutAt bytes place
 
--- A line, a quote and a comment that isn't read go on up to their first ends.
+-- The pieces are what stands between these.
+abbrev pub PiecesOutside : Type 0
+PiecesOutside = (script : List ℕ) (found : List (List ℕ)) → (pieces script ≡ found) ↔ ArePieces script found
+
+-- The machine leaves a line, a quote and what `/*` opens at their ends, and goes on where these have none.
+pub record IsLeftAtEnds (bytes : List ℕ) : Type 0 where
+  pub line : closing Line bytes ≡ line_end bytes
+  pub quote : (mark : ℕ) → closing (Quote mark) bytes ≡ quote_end mark false bytes
+  pub comment : closing Block bytes ≡ comment_end bytes
+  pub read : closing Read bytes ≡ read_end 0 bytes
+  pub opened : closing Opened bytes ≡ opened_end bytes
+
+-- so from every place on
 abbrev pub EndsFirst : Type 0
-EndsFirst = (bytes : List ℕ) → EndsAreFirst bytes
+EndsFirst = (bytes : List ℕ) → IsLeftAtEnds bytes

@@ -1,11 +1,12 @@
 pub mod Bytes
 pub mod Machine
 pub mod Pieces
-pub mod Gap
 pub mod Ends
+pub mod Gap
 pub mod Outside
 pub mod Quoting
 pub mod Tokens
+pub mod Placed
 pub mod Stepping
 pub mod Splitting
 pub mod Laws

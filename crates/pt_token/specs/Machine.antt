@@ -1,5 +1,7 @@
--- Where a byte of a script stands: outside, in a quote or in a comment. It is told by going over the bytes before it.
-use Rattle.std.specs.Prelude.{ℕ, ◌+◌, ◌-◌, ◌*◌, Bool, true, false, ◌&&◌, ◌||◌, ◌==◌, nat_le, nat_lt, if◌then◌else◌, List, [], ◌∷◌}
+-- Where a byte of a script stands: outside, in a quote or in a comment. It is told by going over the bytes before it. (In the
+-- shape of the code; Ends, Gap and Outside tell without it where quotes and comments end and which `;` cuts.)
+use Rattle.std.specs.Prelude.{ℕ, suc, ◌+◌, ◌-◌, ◌*◌, Bool, true, false, ◌&&◌, ◌||◌, ◌==◌, nat_le, nat_lt, if◌then◌else◌, List, [], ◌∷◌, Option, Some, None}
+use Rattle.std.specs.Option.{option_map}
 use Rattle.pt_token.specs.Bytes.{is_digit, is_white}
 use Rattle.pt_token.specs.declared.state.State.{State}
 use Rattle.pt_token.specs.declared.state.State.TheVariants.{Plain, Quote, Escaped, Dash, Dashes, Line, Slash, Opened, Block, Star, Version, Read, ReadStar, ReadQuote, ReadEscaped}
@@ -64,3 +66,8 @@ is_cut s b = b == 59 && is_outside s
 abbrev pub run : State → List ℕ → State
 run s [] = s
 run s (b ∷ bytes) = run (step s b) bytes
+
+-- How many bytes what is open goes on for, with its end. None where it has no end among these.
+unfoldable pub closing : State → List ℕ → Option ℕ
+closing s [] = None
+closing s (b ∷ bytes) = if is_plain (step s b) then Some 1 else option_map suc (closing (step s b) bytes)

@@ -3,7 +3,6 @@ use Rattle.std.specs.Prelude.{◌≡◌, ◌<◌, ℕ, ◌+◌, ◌-◌, ◌%◌
 use Rattle.std.specs.List.{starts_with}
 use Rattle.pt_token.specs.declared.bytes.Class.TheVariants.{Digit, HexDigit, WordByte}
 use Rattle.pt_token.specs.declared.quoting.Quoting.TheVariants.{Within}
-use Rattle.pt_token.specs.declared.state.State.TheVariants.{Opened}
 use Rattle.pt_token.specs.declared.gap.Gap.{Gap}
 use Rattle.pt_token.specs.declared.token.Token.{Token}
 use Rattle.pt_token.specs.declared.token.TokenKind.{TokenKind}
@@ -12,7 +11,7 @@ use Rattle.pt_token.specs.declared.token.Found.{Found}
 use Rattle.pt_token.specs.declared.fault.LexFault.{LexFault}
 use Rattle.pt_token.specs.declared.fault.LexFault.TheVariants.{BadByte, OpenQuote, OpenComment, NoMemory}
 use Rattle.pt_token.specs.Bytes.{begins_word, front, is_digit, is_quote}
-use Rattle.pt_token.specs.Gap.{closing, next_gap}
+use Rattle.pt_token.specs.Gap.{next_gap, opened_end}
 use Rattle.pt_token.specs.Quoting.{content, hex_bytes, text_end}
 
 abbrev pub found : TokenKind → ℕ → Found
@@ -82,7 +81,7 @@ unfoldable pub next_token : List ℕ → Option Found
 next_token bytes = or_else (hex bytes) (or_else (word bytes) (or_else (number_token bytes) (or_else (quoted bytes) (or_else (text bytes) (sign bytes)))))
 
 abbrev pub is_open_comment : List ℕ → Bool
-is_open_comment bytes = starts_with nat_eq bytes (codes "/*") && is_none (closing Opened (drop 2 bytes))
+is_open_comment bytes = starts_with nat_eq bytes (codes "/*") && is_none (opened_end (drop 2 bytes))
 
 -- what is wrong with bytes that begin with no token, no white space and no closed comment
 unfoldable pub fault_at : Bool → ℕ → List ℕ → LexFault

@@ -1,6 +1,7 @@
 ghost use Rattle.std.specs.Prelude.{◌≡◌, ◌<◌, ◌≤◌, length, All, IsTrue, IfSome};
 ghost use Rattle.pt_token.specs.Bytes.{is_digit};
-ghost use Rattle.pt_token.specs.Gap.{closing, kind, line, number, opener};
+ghost use Rattle.pt_token.specs.Gap.{kind, line, number, opened_end, opener};
+ghost use Rattle.pt_token.specs.Machine.{closing};
 
 use crate::bytes::{Class, front};
 use crate::state::State;
@@ -17,7 +18,7 @@ pub(crate) enum Comment {
 }
 
 /// How many bytes what is open goes on for, with its end. It takes no memory.
-pub(crate) fn closing(state: State, bytes: &[u8]) -> Option<usize>
+fn closing(state: State, bytes: &[u8]) -> Option<usize>
     ensures value { result ≡ closing state bytes.now }
     ensures within { IfSome result (λ n. n ≤ length bytes.now) }
 {
@@ -37,6 +38,14 @@ pub(crate) fn line(bytes: &[u8]) -> usize
     ensures within { result ≤ length bytes.now }
 {
     closing(State::Line, bytes).unwrap_or(bytes.len())
+}
+
+/// How many bytes there are behind a comment's `/*`, with its end. `None` where it is open to the end. It takes no memory.
+pub(crate) fn opened_end(bytes: &[u8]) -> Option<usize>
+    ensures value { result ≡ opened_end bytes.now }
+    ensures within { IfSome result (λ n. n ≤ length bytes.now) }
+{
+    closing(State::Opened, bytes)
 }
 
 /// What kind of a comment it is, by the bytes behind its `/*`. It takes no memory.

@@ -1,11 +1,9 @@
 ghost use Rattle.std.specs.Prelude.{◌≡◌, ◌↔◌, ◌+◌, ◌<◌, ◌≤◌, ◌^◌, length, slice_index, false, IsTrue, IfSome};
 ghost use Rattle.pt_token.specs.Bytes.{is_white};
-ghost use Rattle.pt_token.specs.Gap.{IsBlank, closing, comment_gap, gap_inside, gap_of, gap_outside, is_dashes, kind, next_gap};
-ghost use Rattle.pt_token.specs.declared.state.State.TheVariants.{Opened};
+ghost use Rattle.pt_token.specs.Gap.{IsBlank, comment_gap, gap_inside, gap_of, gap_outside, is_dashes, kind, next_gap, opened_end};
 
 use crate::bytes::{behind, is_white};
-use crate::comment::{Comment, closing, kind, line};
-use crate::state::State;
+use crate::comment::{Comment, kind, line, opened_end};
 
 /// White space or a comment at the front of bytes.
 #[derive(Clone, Copy, Debug)]
@@ -99,11 +97,11 @@ fn outside(length: usize) -> Gap
 /// The comment, or the opener of one that is read, by the bytes behind its `/*`. `None` where it isn't closed or malformed.
 fn comment_gap(bytes: &[u8]) -> Option<Gap>
     requires { length bytes.now + 2 < 2 ^ 64 }
-    ensures value { result ≡ comment_gap (kind bytes.now) (closing Opened bytes.now) }
+    ensures value { result ≡ comment_gap (kind bytes.now) (opened_end bytes.now) }
     ensures some { IfSome result (λ g. 0 < g.length) }
     ensures within { IfSome result (λ g. g.length ≤ length bytes.now + 2) }
 {
-    let closed = closing(State::Opened, bytes)?;
+    let closed = opened_end(bytes)?;
     match kind(bytes) {
         Comment::Plain => Some(outside(closed + 2)),
         Comment::Read(opener) => Some(Gap {

@@ -1,4 +1,4 @@
-ghost use Rattle.pt_token.specs.Laws.{BlankHasNoToken, CutsAreAll, CutsEnd, CutsOutside, EndsFirst, FeedsGivePieces};
+ghost use Rattle.pt_token.specs.Laws.{BlankHasNoToken, CutsAreAll, CutsEnd, CutsOutside, EndsFirst, FeedsGivePieces, PiecesOutside};
 
 /// The pieces of a script don't depend on the chunks in which its bytes are fed.
 pub fn feeds_give_pieces()
@@ -16,12 +16,13 @@ pub fn blank_has_no_token()
     ensures { BlankHasNoToken }
 {}
 
-/// The machine's first cut is the first `;` outside quotes and comments.
+/// The machine's first cut is the first `;` outside quotes and comments, and the pieces are what stands between these.
 pub fn cuts_outside()
-    ensures { CutsOutside }
+    ensures first { CutsOutside }
+    ensures pieces { PiecesOutside }
 {}
 
-/// A line, a quote and a comment that isn't read go on up to their first ends.
+/// The machine leaves a line, a quote and a comment at their ends, which are told without it.
 pub fn ends_first()
     ensures { EndsFirst }
 {}

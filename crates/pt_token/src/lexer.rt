@@ -3,10 +3,9 @@ ghost use Rattle.pt_token.specs.Stepping.{IsStep, listed};
 ghost use Rattle.pt_token.specs.Tokens.{IsFault, IsFaultFrom, IsLexed, fault_at, is_open_comment};
 
 use crate::bytes::{behind, is_quote};
-use crate::comment::closing;
+use crate::comment::opened_end;
 use crate::fault::LexFault;
 use crate::gap::next_gap;
-use crate::state::State;
 use crate::token::{Token, byte_at, next_token};
 use std::alloc::{AllocError, Global};
 
@@ -95,5 +94,5 @@ fn fault_at(inside: bool, place: usize, bytes: &[u8]) -> LexFault
 fn is_open_comment(bytes: &[u8]) -> bool
     ensures { result ≡ is_open_comment bytes.now }
 {
-    bytes.starts_with(b"/*") && closing(State::Opened, &bytes[2..]).is_none()
+    bytes.starts_with(b"/*") && opened_end(&bytes[2..]).is_none()
 }

@@ -1,6 +1,6 @@
 -- Which values a column takes. After the manual's topics "Integer Types", "The DATE, DATETIME, and TIMESTAMP Types" and "The
 -- BINARY and VARBINARY Types".
-use Rattle.std.specs.Prelude.{ℕ, ℤ, pos, neg_ℤ, ◌≤ℤ◌, ◌≤◌, List, length}
+use Rattle.std.specs.Prelude.{ℕ, ◌≤◌, Bool, ◌&&◌, ℤ, pos, neg_ℤ, ◌≤ℤ◌, int_le, List, length}
 use Rattle.pt_value.specs.declared.value.Value.{Value}
 use Rattle.pt_value.specs.declared.value.Value.TheVariants.{Null, Int, Day, Bytes}
 use Rattle.pt_value.specs.declared.value.Kind.{Kind}
@@ -13,6 +13,10 @@ IsBetween low high z = (low ≤ℤ z) × (z ≤ℤ high)
 -- a DATE: from 1000-01-01 to 9999-12-31
 abbrev pub FitsDate : ℤ → Type 0
 FitsDate day = IsBetween (neg_ℤ (pos 354_285)) (pos 2_932_896) day
+
+-- the same, as a test
+abbrev pub fits_date : ℤ → Bool
+fits_date day = int_le (neg_ℤ (pos 354_285)) day && int_le day (pos 2_932_896)
 
 abbrev pub IntFits : Kind → ℤ → Type 0
 IntFits kind.Int n = IsBetween (neg_ℤ (pos 2_147_483_648)) (pos 2_147_483_647) n

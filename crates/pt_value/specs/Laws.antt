@@ -1,10 +1,10 @@
 -- What the definitions come to. Each is proved.
-use Rattle.std.specs.Prelude.{◌≡◌, ◌↔◌, ℤ, pos, List, ℕ}
+use Rattle.std.specs.Prelude.{◌≡◌, ◌↔◌, ℤ, pos, List, ℕ, Some}
 use Rattle.std.specs.Int.{IsInRange}
 use Rattle.std.specs.declared.cmp.Ordering.TheVariants.{Equal}
 use Rattle.pt_value.specs.Calendar.{Date, IsDate, date_of, day_number}
 use Rattle.pt_value.specs.Fits.{FitsDate}
-use Rattle.pt_value.specs.Text.{SpellsDay}
+use Rattle.pt_value.specs.Text.{SpellsDay, day_of}
 use Rattle.pt_value.specs.Value.{value_cmp}
 use Rattle.pt_value.specs.declared.value.Value.{Value}
 
@@ -19,6 +19,10 @@ pub record OneDate : Type 0 where
 -- bytes spell one day at most
 abbrev pub OneSpelling : Type 0
 OneSpelling = (bytes : List ℕ) (a b : ℤ) → SpellsDay bytes a → SpellsDay bytes b → a ≡ b
+
+-- `day_of` gives a day exactly where bytes spell it
+abbrev pub SpelledDay : Type 0
+SpelledDay = (bytes : List ℕ) (day : ℤ) → (day_of bytes ≡ Some day) ↔ SpellsDay bytes day
 
 -- none but equal values tie
 abbrev pub OneValue : Type 0

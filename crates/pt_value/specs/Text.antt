@@ -1,9 +1,10 @@
 -- The texts of dates and values. After the manual's topics "Date and Time Literals", "Hexadecimal Literals" and "String Literals".
-use Rattle.std.specs.Prelude.{◌≡◌, ℕ, ◌+◌, ◌/◌, ◌%◌, Bool, not, ◌&&◌, ◌==◌, nat_le, nat_lt, if◌then◌else◌, ℤ, List, [], ◌∷◌, ◌++◌, codes}
+use Rattle.std.specs.Prelude.{◌≡◌, ℕ, ◌+◌, ◌-◌, ◌*◌, ◌/◌, ◌%◌, Bool, not, ◌&&◌, ◌==◌, nat_le, nat_lt, if◌then◌else◌, ℤ, List, [], ◌∷◌, ◌++◌, slice_index, codes, Option, Some, None}
 use Rattle.std.specs.List.{flat_map, list_all}
+use Rattle.std.specs.Str.{bytes_eq}
 use Rattle.std.specs.Fmt.{signed_decimal}
-use Rattle.pt_value.specs.Calendar.{Date, date_of}
-use Rattle.pt_value.specs.Fits.{FitsDate}
+use Rattle.pt_value.specs.Calendar.{Date, date_of, day_number}
+use Rattle.pt_value.specs.Fits.{FitsDate, fits_date}
 use Rattle.pt_value.specs.declared.value.Value.{Value}
 use Rattle.pt_value.specs.declared.value.Value.TheVariants.{Null, Int, Day, Bytes}
 
@@ -20,6 +21,22 @@ date_text date =
 pub record SpellsDay (bytes : List ℕ) (day : ℤ) : Type 0 where
   pub fits : FitsDate day
   pub text : bytes ≡ date_text (date_of day)
+
+-- the same, as a test
+abbrev pub spells_day : List ℕ → ℤ → Bool
+spells_day bytes day = fits_date day && bytes_eq bytes (date_text (date_of day))
+
+-- the number that two digits at a place write
+abbrev pub number_at : List ℕ → ℕ → ℕ
+number_at bytes place = (slice_index bytes place - 48) * 10 + (slice_index bytes (place + 1) - 48)
+
+-- the date that the digits of YYYY-MM-DD write, told from their places alone
+abbrev pub date_in : List ℕ → Date
+date_in bytes = record { year = number_at bytes 0 * 100 + number_at bytes 2; month = number_at bytes 5; day = number_at bytes 8 }
+
+-- the day that bytes spell, if any: it can be no other than that of the date in them. `SpelledDay` of Laws.antt says so
+unfoldable pub day_of : List ℕ → Option ℤ
+day_of bytes = let day = day_number (date_in bytes) in if spells_day bytes day then Some day else None
 
 -- a byte that stands for itself within quotes: 0x20 to 0x7E, and neither `'` nor a backslash
 abbrev pub is_plain : ℕ → Bool

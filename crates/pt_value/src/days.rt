@@ -2,7 +2,7 @@ ghost use Rattle.std.specs.Prelude.{◌≡◌, ◌+◌, ◌%◌, ℤ, pos, ◌+�
 ghost use Rattle.jiff_core.specs.Date.{IsYmd, epoch_day, ordinal, weekday_of};
 ghost use Rattle.pt_value.specs.Calendar.{date_of, day_of_year, days_after_monday, days_after_sunday, quarter_of};
 ghost use Rattle.pt_value.specs.Fits.{FitsDate};
-ghost use Rattle.pt_value.specs.Text.{SpellsDay};
+ghost use Rattle.pt_value.specs.Text.{SpellsDay, day_of};
 
 use crate::written::Written;
 use jiff::civil::Date;
@@ -76,6 +76,7 @@ pub fn to_days(day: i32) -> i32
 pub fn day_of_text(bytes: &[u8]) -> Option<i32>
     ensures some { IfSome result (SpellsDay bytes.now) }
     ensures none { IfNone result ((day : ℤ) → ¬ (SpellsDay bytes.now day)) }
+    ensures value { result ≡ day_of bytes.now }
 {
     let written = Written::read(bytes)?;
     written.day()

@@ -6,8 +6,8 @@
 //!   value.
 //! - `Truth` has three values; AND is the `least`, OR the `greatest`, NOT the `turned`.
 //! - A day is a count of days from 1970-01-01. Its parts are those of `date_of`, the calendar's date of that day, and
-//!   `day_of_text` gives the day that bytes spell, where `SpellsDay` says that they do.
-//! - `one_date`, `one_spelling` and `one_value` are theorems about these definitions.
+//!   `day_of_text` gives the day that bytes spell, where `SpellsDay` says that they do; as a function of the bytes it is `day_of`.
+//! - `one_date`, `one_spelling`, `spelled_day` and `one_value` are theorems about these definitions.
 //!
 //! Only `show` and `copy` take memory. It stands on `pt_plain`, and for the calendar on `jiff`.
 #![tactic(auto)]
@@ -24,6 +24,6 @@ pub use days::{
     day_of_month, day_of_text, day_of_week, day_of_year, month, quarter, to_days, weekday, year,
 };
 pub use ident::{Ident, NameFault};
-pub use laws::{one_date, one_spelling, one_value};
+pub use laws::{one_date, one_spelling, one_value, spelled_day};
 pub use truth::Truth;
 pub use value::{Bin, Cell, Kind, Value};

@@ -1,5 +1,5 @@
 use Rattle.std.proofs.Common.{◌≡◌, drop}
-use Rattle.pt_token.specs.Gap.{closing}
+use Rattle.pt_token.specs.Machine.{closing}
 use Rattle.pt_token.proofs.Loops.{moved}
 use Rattle.pt_token.proofs.comment.closing.Given as goal
 

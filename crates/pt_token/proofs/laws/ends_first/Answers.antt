@@ -1,5 +1,5 @@
-use Rattle.pt_token.proofs.Ending.{ends_are_first}
+use Rattle.pt_token.proofs.Opening.{left_at_ends}
 use Rattle.pt_token.proofs.laws.ends_first.Goals as goal
 
 pub returns : goal.returns
-returns c = ends_are_first
+returns c = left_at_ends

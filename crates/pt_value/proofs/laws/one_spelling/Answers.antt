@@ -1,4 +1,4 @@
-use Rattle.pt_value.proofs.Reading.{one_day}
+use Rattle.pt_value.proofs.Spelled.{one_day}
 use Rattle.pt_value.proofs.laws.one_spelling.Goals as goal
 
 pub returns : goal.returns
