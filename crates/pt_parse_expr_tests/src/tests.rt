@@ -1,0 +1,5 @@
+mod conds;
+mod exprs;
+mod nested;
+mod places;
+mod reserved;
