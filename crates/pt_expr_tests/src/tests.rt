@@ -1,3 +1,4 @@
 mod conditions;
+mod edges;
 mod expressions;
 mod trees;

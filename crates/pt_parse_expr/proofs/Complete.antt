@@ -11,7 +11,7 @@ use Rattle.pt_parse_expr.specs.declared.found.Behind.TheVariants as behind
 use Rattle.pt_parse_expr.specs.Grammar.{Symbols, Terms, Factors, sum_of, product_of, and_of, or_of, IsSign, IsOp, IsExpr, AreTerms, IsTerm, AreFactors, IsFactor, IsPrimary, AreMore, IsNegation, IsCond, AreConjs, IsConj, AreNegs, IsNeg, IsTest}
 use Rattle.pt_parse_expr.specs.Grammar as rule
 use Rattle.pt_parse_expr.specs.Limits.{IsShallow}
-use Rattle.pt_parse_expr.specs.Reader.{Reading, mapped, or_else, closed, as_expr, as_cond, after_is, dated, value, call_by, after_word, divided_by, after_mod, primary, factor, next_factor, term, next_term, sum, next_more, member, from_low, range, among, behind_expr, test, negation, next_negation, conjunction, next_conjunction, either, found}
+use Rattle.pt_parse_expr.specs.Reader.{Reading, mapped, or_else, closed, as_expr, as_cond, after_is, dated, value, call_by, after_word, divided_by, after_mod, primary, factor, next_factor, term, next_term, sum, next_more, member, from_low, range, among, behind_expr, tested, negation, next_negation, conjunction, next_conjunction, either, found}
 use Rattle.pt_parse_expr.proofs.Sound.{found-sound}
 use Rattle.pt_parse_expr.proofs.Eats.{◌▸◌, ◌▸*◌, negation-keeps, one, expr-eats, term-eats, factor-eats, conj-eats, neg-eats, sign-eats, op-eats}
 use Rattle.pt_parse_expr.proofs.Covers.{Covers, covers-exact, covers-mapped, exactly, with_many, continues-none, continues-more}
@@ -153,7 +153,7 @@ range-covered {rest} {low} {high} e f depth room is_not =
 -- ---- conditions
 
 mutual
-  unfolding either conjunction negation test behind_expr next_negation next_conjunction
+  unfolding either conjunction negation tested behind_expr next_negation next_conjunction
 
   pub cond-covered : {ts rest : Symbols} {c : Cond} → IsCond ts c rest → (depth : ℕ) → Room depth ts
       → Covers cond_on (as_cond (either (found depth) ts)) c rest
@@ -195,7 +195,7 @@ mutual
   neg-covered (rule.negated d) depth room = negated-covers (test-covered d depth (room-after (one (λ h. refl)) room))
 
   pub test-covered : {ts rest : Symbols} {c : Cond} → IsTest ts c rest → (depth : ℕ) → Room depth ts
-      → Covers sum_on (as_cond (test (found depth) ts)) c rest
+      → Covers sum_on (as_cond (tested (found depth) ts)) c rest
   test-covered (rule.in_parens {ts} {rest} {c} d) depth room =
       exactly (opened-test (found depth) (found depth ts) c rest (found-cond (λ n r. cond-covered d n r) refl depth (inside-opened depth room)))
   test-covered (rule.compare {ts} {us} {rest} {m} {x} {y} e f) depth room =

@@ -16,7 +16,7 @@ use Rattle.pt_parse_expr.specs.declared.found.Behind.{Behind}
 use Rattle.pt_parse_expr.specs.declared.found.Behind.TheVariants as behind
 use Rattle.pt_parse_expr.specs.Symbols.{func_of}
 use Rattle.pt_parse_expr.specs.Grammar.{Symbols, is_date, IsSign, plus, minus, IsOp, times, div, percent, modulo, IsExpr, sum as sums, AreTerms, no_term, term as one_term, IsTerm, product, AreFactors, no_factor, factor as one_factor, IsFactor, bare, positive, negative, IsPrimary, number, text, hex, date, null as is_null_word, word, quoted, call, call_mod, parens, AreMore, no_more, more as one_more, IsNegation, without, with_not, IsCond, or, AreConjs, no_conj, conj, IsConj, and, AreNegs, no_neg, neg, IsNeg, plain, negated, IsTest, in_parens, compare, is_null, is_in, between}
-use Rattle.pt_parse_expr.specs.Reader.{Reading, Reader, mapped, or_else, many, op_of, sign_of, close, closed, expr_in, as_expr, cond_in, as_cond, null, after_is, with_behind, dated, value, call_by, after_word, divided, divided_by, after_mod, primary, factor, operated, next_factor, product_after, term, signed, next_term, sum_after, sum, next_more, listed, member, up_to, from_low, range, among, behind_expr, compared, opened_by, opened, test, negation, next_negation, and_by, and_after, conjunction, next_conjunction, or_by, or_after, either, found}
+use Rattle.pt_parse_expr.specs.Reader.{Reading, Reader, mapped, or_else, many, op_of, sign_of, close, closed, expr_in, as_expr, cond_in, as_cond, null, after_is, with_behind, dated, value, call_by, after_word, divided, divided_by, after_mod, primary, factor, operated, next_factor, product_after, term, signed, next_term, sum_after, sum, next_more, listed, member, up_to, from_low, range, among, behind_expr, compared, opened_by, opened, tested, negation, next_negation, and_by, and_after, conjunction, next_conjunction, or_by, or_after, either, found}
 use Rattle.pt_parse_expr.proofs.Many.{Adds, many-sound}
 
 -- what was read is spelled
@@ -298,8 +298,8 @@ module _ (inner : Reader Found) (nested : (ts : Symbols) → Sound (Either IsCon
   opened-sound ts (Some p) d = opened_by-sound ts p.0 p.1 d
   opened-sound ts None d = tt
 
-  test-sound : (ts : Symbols) → Sound (Either IsTest) ts (test inner ts)
-  unfolding test
+  test-sound : (ts : Symbols) → Sound (Either IsTest) ts (tested inner ts)
+  unfolding tested
   test-sound (Fixed Open ∷ ts) = opened-sound ts (closed (inner ts)) (closed-sound (Either IsCond) ts (inner ts) (nested ts))
   test-sound ts = compared-sound ts (sum inner ts) (sum-sound inner nested ts)
 
@@ -307,8 +307,8 @@ module _ (inner : Reader Found) (nested : (ts : Symbols) → Sound (Either IsCon
   unfolding negation
   negation-sound (Fixed Not ∷ ts) =
       mapped-sound IsTest (Either IsNeg) (λ c. Test (cond.Not c)) ts _ (λ c rest d. negated d)
-      (as_cond (test inner ts)) (as_cond-sound (Either IsTest) ts (test inner ts) (test-sound ts))
-  negation-sound ts = as_part IsTest IsNeg ts (λ c rest d. plain d) (test inner ts) (test-sound ts)
+      (as_cond (tested inner ts)) (as_cond-sound (Either IsTest) ts (tested inner ts) (test-sound ts))
+  negation-sound ts = as_part IsTest IsNeg ts (λ c rest d. plain d) (tested inner ts) (test-sound ts)
 
   next_negation-adds : (ts : Symbols) → Adds AreNegs ts (next_negation inner ts)
   unfolding next_negation

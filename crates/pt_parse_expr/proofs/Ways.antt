@@ -14,7 +14,7 @@ use Rattle.pt_parse_expr.specs.declared.found.Behind.{Behind}
 use Rattle.pt_parse_expr.specs.declared.found.Behind.TheVariants as behind
 use Rattle.pt_parse_expr.specs.Symbols.{func_of}
 use Rattle.pt_parse_expr.specs.Grammar.{Symbols, IsCond, is_date, sum_of, product_of, and_of, or_of}
-use Rattle.pt_parse_expr.specs.Reader.{Reading, Reader, mapped, or_else, close, closed, expr_in, as_expr, cond_in, as_cond, with_behind, dated, value, call_by, after_word, primary, factor, next_factor, product_after, term, next_term, sum_after, sum, next_more, listed, behind_expr, compared, opened, test, negation, next_negation, and_after, conjunction, next_conjunction, or_after, either}
+use Rattle.pt_parse_expr.specs.Reader.{Reading, Reader, mapped, or_else, close, closed, expr_in, as_expr, cond_in, as_cond, with_behind, dated, value, call_by, after_word, primary, factor, next_factor, product_after, term, next_term, sum_after, sum, next_more, listed, behind_expr, compared, opened, tested, negation, next_negation, and_after, conjunction, next_conjunction, or_after, either}
 use Rattle.pt_parse_expr.proofs.Sound.{Sound, Either}
 use Rattle.pt_parse_expr.proofs.Eats.{Eats, expr-eats, cond-eats}
 use Rattle.pt_parse_expr.proofs.Covers.{Covers, covers, exactly, with_many}
@@ -131,9 +131,9 @@ module _ (inner : Reader Found) where
 
   -- NOT stands before no test
   pub negation-plain : {goes_on : Symbols → Bool} (ts : Symbols) {c : Cond} {rest : Symbols}
-      → Covers goes_on (as_cond (test inner ts)) c rest
+      → Covers goes_on (as_cond (tested inner ts)) c rest
       → Covers goes_on (as_cond (negation inner ts)) c rest
-  unfolding negation test sum term factor primary
+  unfolding negation tested sum term factor primary
   negation-plain (Fixed Not ∷ ts) c = elim c [ ]
   negation-plain [] c = c
   negation-plain _ c = c
@@ -171,13 +171,13 @@ module _ (inner : Reader Found) where
     by_found (Value x) us e = ap (compared inner) e
     by_found (Test c) us e = absurd (none≢some e)
 
-  pub test-by_sum : (ts : Symbols) (p : Expr × Symbols) → sum inner ts ≡ Some p → test inner ts ≡ compared inner (Some p)
-  unfolding test sum term factor primary value
+  pub test-by_sum : (ts : Symbols) (p : Expr × Symbols) → sum inner ts ≡ Some p → tested inner ts ≡ compared inner (Some p)
+  unfolding tested sum term factor primary value
   test-by_sum (Fixed Open ∷ ts) p e = opened-by_sum p (closed (inner ts)) e
   test-by_sum [] p e = ap (compared inner) e
   test-by_sum _ p e = ap (compared inner) e
 
-  negation-by_sum : (ts : Symbols) (p : Expr × Symbols) → sum inner ts ≡ Some p → negation inner ts ≡ test inner ts
+  negation-by_sum : (ts : Symbols) (p : Expr × Symbols) → sum inner ts ≡ Some p → negation inner ts ≡ tested inner ts
   unfolding negation sum term factor primary
   negation-by_sum (Fixed Not ∷ ts) p e = absurd (none≢some e)
   negation-by_sum [] p e = refl
@@ -198,6 +198,6 @@ module _ (inner : Reader Found) where
 
   pub test-covers : {goes_on : Symbols → Bool} {b : Behind} {rest : Symbols} (ts : Symbols) (x : Expr) (us : Symbols)
       → sum inner ts ≡ Some (x, us)
-      → Covers goes_on (behind_expr inner us) b rest → Covers goes_on (as_cond (test inner ts)) (with_behind x b) rest
+      → Covers goes_on (behind_expr inner us) b rest → Covers goes_on (as_cond (tested inner ts)) (with_behind x b) rest
   test-covers {goes_on} {b} {rest} ts x us e c =
       subst (λ r. Covers goes_on (as_cond r) (with_behind x b) rest) (sym (test-by_sum ts (x, us) e)) (compared-by x (Some (Value x, us)) c)

@@ -233,13 +233,13 @@ module _ (inner : Reader Found) where
   opened (Some p) = opened_by p.0 p.1
   opened None = None
 
-  unfoldable pub test : Reader Found
-  test (Fixed Open ∷ ts) = opened (closed (inner ts))
-  test ts = compared (sum ts)
+  unfoldable pub tested : Reader Found
+  tested (Fixed Open ∷ ts) = opened (closed (inner ts))
+  tested ts = compared (sum ts)
 
   unfoldable pub negation : Reader Found
-  negation (Fixed Not ∷ ts) = mapped (λ c. Test (cond.Not c)) (as_cond (test ts))
-  negation ts = test ts
+  negation (Fixed Not ∷ ts) = mapped (λ c. Test (cond.Not c)) (as_cond (tested ts))
+  negation ts = tested ts
 
   unfoldable pub next_negation : Reader Cond
   next_negation (Fixed And ∷ ts) = as_cond (negation ts)

@@ -27,11 +27,11 @@ impl<F: Fn(Global, &[Symbol], usize, usize) -> Reading<Found>> Grammar<F> {
     }
 
     /// A test, or an expression.
-    #[tactic(auto, unfolding(crate::specs::Reader::test))]
+    #[tactic(auto, unfolding(crate::specs::Reader::tested))]
     fn test(&self, symbols: &[Symbol], at: usize) -> Reading<Found>
         requires nests { Nests self.now.depth (F.pre self.now.inner) (F.post self.now.inner) }
         requires within { at ≤ length symbols.now }
-        ensures reads { Reads symbols.now result (spec.test (spec.found self.now.depth) (drop at symbols.now)) }
+        ensures reads { Reads symbols.now result (spec.tested (spec.found self.now.depth) (drop at symbols.now)) }
         ensures place { Reaches (at + 1) symbols.now result }
     {
         match peek(symbols, at) {
@@ -107,7 +107,7 @@ impl<F: Fn(Global, &[Symbol], usize, usize) -> Reading<Found>> Grammar<F> {
     fn negated_test(&self, symbols: &[Symbol], at: usize) -> Reading<Found>
         requires nests { Nests self.now.depth (F.pre self.now.inner) (F.post self.now.inner) }
         requires within { at ≤ length symbols.now }
-        ensures reads { Reads symbols.now result (spec.mapped (λ c. Found.Test (Cond.Not c)) (spec.as_cond (spec.test (spec.found self.now.depth) (drop at symbols.now)))) }
+        ensures reads { Reads symbols.now result (spec.mapped (λ c. Found.Test (Cond.Not c)) (spec.as_cond (spec.tested (spec.found self.now.depth) (drop at symbols.now)))) }
         ensures place { Reaches (at + 1) symbols.now result }
     {
         let Some((found, next)) = self.test(symbols, at)? else {

@@ -4,23 +4,25 @@ use pt_value::{Bin, Ident, Kind, Value, day_of_text};
 use std::alloc::{AllocError, Global};
 use std::test::Fail;
 
-/// A table of three columns, `a INT, d DATE, s VARBINARY(10)`, and a row of it.
+/// A table of four columns, `a INT, d DATE, s VARBINARY(10), c BIGINT`, and a row of it.
 #[derive(Drop)]
 pub struct Sample {
     pub columns: Columns,
     pub cells: Cells,
 }
 
-/// A row of 7, 2000-01-01 and `ab`.
+/// A row of 7, 2000-01-01, `ab` and the least BIGINT.
 pub fn sample_row(alloc: Global) -> Result<Sample, Fail> {
     let mut columns = Columns::new(alloc);
     columns.push(column("a", Kind::Int)?)?;
     columns.push(column("d", Kind::Date)?)?;
     columns.push(column("s", Kind::Binary(10))?)?;
+    columns.push(column("c", Kind::BigInt)?)?;
     let mut cells = Cells::new(alloc);
     cells.push(Value::Int(7))?;
     cells.push(Value::Day(10_957))?;
     cells.push(Value::Bytes(Bin::from_slice(alloc, b"ab")?))?;
+    cells.push(Value::Int(-9_223_372_036_854_775_808))?;
     Ok(Sample { columns, cells })
 }
 
@@ -41,7 +43,7 @@ fn column(name: &str, kind: Kind) -> Result<Column, Fail> {
 }
 
 /// The expression that is written in `text` with each operator behind its parts: `7 2 neg div` is `7 DIV -2`. A text begins with
-/// `'`, a date with `@`.
+/// `'`, a date with `@`, and what stands for `X'..'` with `#`, which isn't written in digits.
 pub fn tree(alloc: Global, text: &str) -> Result<Expr, Fail> {
     let mut stack = Vec::new(alloc);
     for word in text.split(' ') {
@@ -85,6 +87,7 @@ fn leaf(alloc: Global, word: &str) -> Result<Expr, Fail> {
     }
     match word.as_bytes() {
         [b'\'', text @ ..] => Ok(Expr::Text(Bin::from_slice(alloc, text)?)),
+        [b'#', bytes @ ..] => Ok(Expr::Hex(Bin::from_slice(alloc, bytes)?)),
         [b'@', text @ ..] => Ok(Expr::Date(day_of_text(text))),
         b"null" => Ok(Expr::Null),
         _ => Ok(Expr::Column(ident(word)?)),
