@@ -1,7 +1,8 @@
+use super::name;
+use crate::{files_of, read_front};
 use pt_host::{Host, Image, Name};
 use pt_memhost::MemHost;
 use pt_plain::{List, joined, padded};
-use std::alloc::Global;
 use std::test::Fail;
 
 #[test]
@@ -51,36 +52,38 @@ fn names_are_made_and_extended(rt: HostRuntime) -> Result<(), Fail> {
     Ok(())
 }
 
-fn image_of(alloc: Global, files: &[(&str, &str)]) -> Result<Option<Image>, Fail> {
-    let mut all = Vec::new(alloc);
-    for (name, bytes) in files {
-        let name = Name::of(name.as_bytes()).ok_or("no name")?;
-        all.push((name, List::from_slice(alloc, bytes.as_bytes())?))?;
-    }
-    Ok(Image::of(List::of(all)))
-}
-
 #[test]
 fn an_image_has_rising_names(rt: HostRuntime) -> Result<(), Fail> {
-    for (files, rise) in [
-        ([("B", "1"), ("a", "2"), ("a.new", "")], true),
-        ([("a", "1"), ("B", "2"), ("c", "")], false),
-        ([("a", "1"), ("b", "2"), ("b", "")], false),
+    for (names, rise) in [
+        (["B", "a", "a.new"], true),
+        (["a", "B", "c"], false),
+        (["a", "b", "b"], false),
     ] {
-        assert_eq!(rt; image_of(rt.alloc(), &files)?.is_some(), rise, "{files:?}");
+        let [first, second, third] = names;
+        let files = [
+            (name(first)?, b"1".as_slice()),
+            (name(second)?, b"2"),
+            (name(third)?, b""),
+        ];
+        let image = Image::of(files_of(rt.alloc(), &files)?);
+        assert_eq!(rt; image.is_some(), rise, "{names:?}");
     }
     Ok(())
 }
 
 #[test]
 fn a_host_starts_on_an_image(rt: HostRuntime) -> Result<(), Fail> {
-    let image = image_of(rt.alloc(), &[("a", "one"), ("b", "")])?.ok_or("no image")?;
+    let files = [(name("a")?, b"one".as_slice()), (name("b")?, b"")];
+    let image = Image::of(files_of(rt.alloc(), &files)?).ok_or("no image")?;
     let mut host = MemHost::from_image(rt.alloc(), &image, b"in")?;
     host.enter("d")?;
-    for (name, length) in [("a", Some(3)), ("b", Some(0)), ("c", None)] {
-        let found = host.length(&Name::of(name.as_bytes()).ok_or("no name")?)?;
-        assert_eq!(rt; found, length, "{name}");
+    let mut bytes = [b'-'; 2];
+    for (file, count) in [("a", Some(2)), ("b", Some(0)), ("c", None)] {
+        let found = read_front(&mut host, &name(file)?, &mut bytes)?;
+        assert_eq!(rt; found, count, "{file}");
     }
-    assert_eq!(rt; (host.calls(), host.starved()), (4, 0));
+    assert_eq!(rt; bytes, *b"on");
+    assert_eq!(rt; host.length(&name("a")?), Ok(Some(3)));
+    assert_eq!(rt; (host.calls(), host.starved()), (7, 0));
     Ok(())
 }

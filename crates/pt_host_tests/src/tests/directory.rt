@@ -1,13 +1,11 @@
+use super::name;
+use crate::read_front;
 use pt_dirhost::DirHost;
 use pt_host::{Host, HostFail, Name};
 use std::alloc::Global;
 use std::fs;
 use std::os::unix::fs::symlink;
 use std::test::Fail;
-
-fn name(text: &str) -> Result<Name, Fail> {
-    Ok(Name::of(text.as_bytes()).ok_or("no name")?)
-}
 
 /// A host that entered a new folder of the current one.
 fn entered(rt: &HostRuntime, folder: &str) -> Result<DirHost<HostRuntime>, Fail> {
@@ -18,11 +16,10 @@ fn entered(rt: &HostRuntime, folder: &str) -> Result<DirHost<HostRuntime>, Fail>
     Ok(host)
 }
 
-/// The bytes of a file, read by a buffer that is longer than the file.
+/// The bytes of a file of fewer than sixteen.
 fn contents(alloc: Global, host: &mut DirHost<HostRuntime>, file: &Name) -> Result<Vec<u8>, Fail> {
-    let length = host.length(file)?.ok_or("no file")?;
-    let mut bytes = vec![in alloc; b'-'; (length as usize).saturating_add(3)]?;
-    let count = host.read_at(file, 0, bytes.as_mut_slice())?;
+    let mut bytes = vec![in alloc; b'-'; 16]?;
+    let count = read_front(host, file, bytes.as_mut_slice())?.ok_or("no file")?;
     bytes.truncate(count);
     Ok(bytes)
 }

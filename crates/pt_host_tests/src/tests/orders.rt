@@ -1,9 +1,10 @@
 ghost use Rattle.std.specs.Prelude.{IsSome};
 ghost use Rattle.pt_memhost.specs.Memory.{world_in};
 
+use super::name;
+use crate::failing;
 use pt_host::{Host, Name};
 use pt_memhost::MemHost;
-use pt_plain::List;
 use std::alloc::Global;
 use std::test::Fail;
 
@@ -14,11 +15,7 @@ fn said_with(
     ordered: &[u64],
     fuse: Option<u64>,
 ) -> Result<([bool; 3], Vec<u8>), Fail> {
-    let mut host = MemHost::empty(alloc, b"")?;
-    host.fail_calls(List::from_slice(alloc, ordered)?);
-    if let Some(passing) = fuse {
-        host.fuse(passing);
-    }
+    let mut host = failing(alloc, ordered, fuse)?;
     let failed = [
         host.say(b"one ").is_err(),
         host.say(b"two ").is_err(),
@@ -59,10 +56,10 @@ fn append(host: &mut MemHost, name: &Name, bytes: &[u8]) -> Result<(), Fail>
 
 #[test]
 fn a_stop_leaves_what_is_chosen(rt: HostRuntime) -> Result<(), Fail> {
-    let name = Name::of(b"a").ok_or("no name")?;
+    let file = name("a")?;
     let mut host = MemHost::empty(rt.alloc(), b"")?;
     host.enter("d")?;
-    append(&mut host, &name, b"xyz")?;
+    append(&mut host, &file, b"xyz")?;
     assert_eq!(rt; (host.pending(), host.syncs(), host.written()), (1, 0, 3));
     for (choice, left) in [
         (0, None),
