@@ -1,4 +1,4 @@
 mod conditions;
-mod edges;
 mod expressions;
+mod sample;
 mod trees;

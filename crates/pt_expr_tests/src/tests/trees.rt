@@ -1,45 +1,14 @@
-use pt_ast::{Cells, Column, Columns, Expr, Factors, Func, Op, Terms};
+use pt_ast::{Expr, Factors, Func, Op, Terms};
 use pt_plain::Held;
-use pt_value::{Bin, Ident, Kind, Value, day_of_text};
+use pt_value::{Bin, Ident, day_of_text};
 use std::alloc::{AllocError, Global};
 use std::test::Fail;
 
-/// A table of four columns, `a INT, d DATE, s VARBINARY(10), c BIGINT`, and a row of it.
-#[derive(Drop)]
-pub struct Sample {
-    pub columns: Columns,
-    pub cells: Cells,
-}
-
-/// A row of 7, 2000-01-01, `ab` and the least BIGINT.
-pub fn sample_row(alloc: Global) -> Result<Sample, Fail> {
-    let mut columns = Columns::new(alloc);
-    columns.push(column("a", Kind::Int)?)?;
-    columns.push(column("d", Kind::Date)?)?;
-    columns.push(column("s", Kind::Binary(10))?)?;
-    columns.push(column("c", Kind::BigInt)?)?;
-    let mut cells = Cells::new(alloc);
-    cells.push(Value::Int(7))?;
-    cells.push(Value::Day(10_957))?;
-    cells.push(Value::Bytes(Bin::from_slice(alloc, b"ab")?))?;
-    cells.push(Value::Int(-9_223_372_036_854_775_808))?;
-    Ok(Sample { columns, cells })
-}
-
-fn ident(name: &str) -> Result<Ident, Fail> {
+pub fn ident(name: &str) -> Result<Ident, Fail> {
     match Ident::of(name.as_bytes()) {
         Ok(name) => Ok(name),
         Err(_) => Err("no identifier".into()),
     }
-}
-
-fn column(name: &str, kind: Kind) -> Result<Column, Fail> {
-    Ok(Column {
-        name: ident(name)?,
-        kind,
-        not_null: false,
-        default: None,
-    })
 }
 
 /// The expression that is written in `text` with each operator behind its parts: `7 2 neg div` is `7 DIV -2`. A text begins with
