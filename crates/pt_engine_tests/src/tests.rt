@@ -87,10 +87,33 @@ fn run_with(
     Ok((ending, host))
 }
 
-/// The same over an empty directory, where no call fails.
-fn run_over(alloc: Global, input: &[u8]) -> Result<(Ending, MemHost), Fail> {
+/// How a run ended, and what its host tells after it.
+#[derive(Debug, Drop)]
+struct Ran {
+    ending: Ending,
+    said: Vec<u8>,
+    calls: u64,
+    starved: u64,
+    pending: u64,
+    written: u64,
+}
+
+fn told_by(alloc: Global, ending: Ending, host: &MemHost) -> Result<Ran, AllocError> {
+    Ok(Ran {
+        ending,
+        said: Vec::from_slice(alloc, host.said())?,
+        calls: host.calls(),
+        starved: host.starved(),
+        pending: host.pending(),
+        written: host.written(),
+    })
+}
+
+/// `run d` over an empty directory and this input, where no call fails.
+fn run_over(alloc: Global, input: &[u8]) -> Result<Ran, Fail> {
     let image = directory(alloc, &[])?;
-    run_with(alloc, &image, input, Fault::Never)
+    let (ending, host) = run_with(alloc, &image, input, Fault::Never)?;
+    Ok(told_by(alloc, ending, &host)?)
 }
 
 /// What a run over this directory says, which has to answer its whole input.

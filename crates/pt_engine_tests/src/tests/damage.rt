@@ -22,16 +22,22 @@ fn spelled(alloc: Global, table: Table<'_>) -> Result<Vec<u8>, Fail> {
     Ok(bytes)
 }
 
-/// Asserts that a run over a directory whose `whole.map` has these bytes tells of damage, and does nothing else.
-fn assert_damaged(rt: &impl Abort, alloc: Global, map: &[u8], what: &str) -> Result<(), Fail> {
+/// A run over a directory whose `whole.map` has these bytes, and whether a stop then leaves the directory as it was.
+fn run_over_map(alloc: Global, map: &[u8]) -> Result<(Ran, bool), Fail> {
     let image = directory(alloc, &[("whole.map", map)])?;
     let input = b"CREATE TABLE u (c INT); SELECT * FROM u";
     let (ending, host) = run_with(alloc, &image, input, Fault::Never)?;
-    assert_eq!(rt; code(&ending), 5, "{what}");
-    assert_ending(rt, &ending, 5, "damaged whole.map 0");
-    assert!(rt; host.said().is_empty(), "{what}");
-    assert_eq!(rt; (host.written(), host.pending()), (0, 0), "{what}");
-    assert_eq!(rt; host.image_pick(alloc, 0)?.files, image.files, "{what}");
+    let is_same = host.image_pick(alloc, 0)?.files == image.files;
+    Ok((told_by(alloc, ending, &host)?, is_same))
+}
+
+/// Asserts that a run over a directory whose `whole.map` has these bytes tells of damage, and does nothing else.
+fn assert_damaged(rt: &impl Abort, alloc: Global, map: &[u8], what: &str) -> Result<(), Fail> {
+    let (ran, is_same) = run_over_map(alloc, map)?;
+    assert_eq!(rt; code(&ran.ending), 5, "{what}");
+    assert_ending(rt, &ran.ending, 5, "damaged whole.map 0");
+    assert!(rt; ran.said.is_empty(), "{what}");
+    assert_eq!(rt; (ran.written, ran.pending, is_same), (0, 0, true), "{what}");
     Ok(())
 }
 
@@ -92,13 +98,19 @@ fn damage_is_told_and_nothing_is_done(rt: HostRuntime) -> Result<(), Fail> {
     Ok(())
 }
 
-#[test]
-fn what_is_not_damaged_is_opened(rt: HostRuntime) -> Result<(), Fail> {
-    let alloc = rt.alloc();
-    let table: Table<'_> = &[("serials.cnt", TWO), ("t.def", DEFINITION), ("t.rows", ROW)];
+/// The files of a map that isn't damaged.
+const SOUND: Table<'static> = &[("serials.cnt", TWO), ("t.def", DEFINITION), ("t.rows", ROW)];
+
+/// What the table shows where `whole.map` is the map of these files.
+fn shown_of(alloc: Global, table: Table<'_>) -> Result<Vec<u8>, Fail> {
     let map = spelled(alloc, table)?;
     let image = directory(alloc, &[("whole.map", &map)])?;
-    let said = said_over(alloc, &image, b"SELECT * FROM t")?;
+    said_over(alloc, &image, b"SELECT * FROM t")
+}
+
+#[test]
+fn what_is_not_damaged_is_opened(rt: HostRuntime) -> Result<(), Fail> {
+    let said = shown_of(rt.alloc(), SOUND)?;
     assert_eq!(rt; said.as_slice(), b"1\nrows 1\n".as_slice());
     pt_engine::holds_one_database();
     pt_engine::one_reading();

@@ -58,16 +58,22 @@ fn may_show(alloc: Global, host: &MemHost, text: &str, two: [&str; 2]) -> Result
     Ok(found)
 }
 
-fn assert_case(rt: &impl Abort, alloc: Global, case: Case) -> Result<(), Fail> {
-    let (number, call, status, said, shown) = case;
+/// The run of a case, and which of its two texts the next run may show.
+fn run_case(alloc: Global, case: Case) -> Result<(Ran, [bool; 2]), Fail> {
+    let (number, _, _, _, two) = case;
     let image = directory(alloc, &[])?;
     let (ending, host) = run_with(alloc, &image, STATEMENTS, Fault::At(number))?;
-    assert_eq!(rt; code(&ending), status, "{call}");
-    assert_eq!(rt; host.said(), said.as_bytes(), "{call}");
-    assert_eq!(rt; host.starved(), 0, "{call}");
-    for text in shown {
-        assert!(rt; may_show(alloc, &host, text, shown)?, "{call}: {text}");
-    }
+    let first = may_show(alloc, &host, two[0], two)?;
+    let second = may_show(alloc, &host, two[1], two)?;
+    Ok((told_by(alloc, ending, &host)?, [first, second]))
+}
+
+fn assert_case(rt: &impl Abort, alloc: Global, case: Case) -> Result<(), Fail> {
+    let (_, call, status, said, _) = case;
+    let (ran, shown) = run_case(alloc, case)?;
+    assert_eq!(rt; code(&ran.ending), status, "{call}");
+    assert_eq!(rt; ran.said.as_slice(), said.as_bytes(), "{call}");
+    assert_eq!(rt; (ran.starved, shown), (0, [true; 2]), "{call}");
     Ok(())
 }
 
@@ -81,8 +87,8 @@ fn a_fault_ends_the_run_and_the_next_one_goes_on(rt: HostRuntime) -> Result<(), 
 
 #[test]
 fn the_faults_are_in_all_calls_of_the_run(rt: HostRuntime) -> Result<(), Fail> {
-    let (ending, host) = run_over(rt.alloc(), STATEMENTS)?;
-    assert_eq!(rt; code(&ending), 0);
-    assert_eq!(rt; host.calls(), FAULTS.len() as u64);
+    let ran = run_over(rt.alloc(), STATEMENTS)?;
+    assert_eq!(rt; code(&ran.ending), 0);
+    assert_eq!(rt; ran.calls, FAULTS.len() as u64);
     Ok(())
 }

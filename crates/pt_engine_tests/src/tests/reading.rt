@@ -51,9 +51,9 @@ const READINGS: [(&str, &str); 17] = [
 #[test]
 fn a_piece_is_read_by_its_grammar(rt: HostRuntime) -> Result<(), Fail> {
     for (input, said) in READINGS {
-        let (ending, host) = run_over(rt.alloc(), input.as_bytes())?;
-        assert_ending(&rt, &ending, 0, "");
-        assert_eq!(rt; host.said(), said.as_bytes(), "{input}");
+        let ran = run_over(rt.alloc(), input.as_bytes())?;
+        assert_ending(&rt, &ran.ending, 0, "");
+        assert_eq!(rt; ran.said.as_slice(), said.as_bytes(), "{input}");
     }
     Ok(())
 }

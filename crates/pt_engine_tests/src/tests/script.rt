@@ -11,24 +11,29 @@ const ANSWERS: &str =
 #[test]
 fn a_script_is_answered_to_its_end(rt: HostRuntime) -> Result<(), Fail> {
     for (input, said) in [(SCRIPT, ANSWERS), ("", ""), (" ;\n;", "")] {
-        let (ending, host) = run_over(rt.alloc(), input.as_bytes())?;
-        assert_ending(&rt, &ending, 0, "");
-        assert_eq!(rt; host.said(), said.as_bytes(), "{input}");
-        assert_eq!(rt; host.starved(), 0, "{input}");
+        let ran = run_over(rt.alloc(), input.as_bytes())?;
+        assert_ending(&rt, &ran.ending, 0, "");
+        assert_eq!(rt; ran.said.as_slice(), said.as_bytes(), "{input}");
+        assert_eq!(rt; ran.starved, 0, "{input}");
     }
     Ok(())
 }
 
+/// A run of these words, over an empty directory.
+fn run_words(alloc: Global, command: &str) -> Result<Ran, Fail> {
+    let image = directory(alloc, &[])?;
+    let words = words_of(alloc, command)?;
+    let mut host = host_with(alloc, &image, b"CREATE TABLE t (c INT)", Fault::Never)?;
+    let ending = run(alloc, &words, &mut host);
+    Ok(told_by(alloc, ending, &host)?)
+}
+
 #[test]
 fn words_of_no_form_touch_nothing(rt: HostRuntime) -> Result<(), Fail> {
-    let image = directory(rt.alloc(), &[])?;
     for command in ["run", "", "walk d", "run d e"] {
-        let words = words_of(rt.alloc(), command)?;
-        let input = b"CREATE TABLE t (c INT)";
-        let mut host = host_with(rt.alloc(), &image, input, Fault::Never)?;
-        let ending = run(rt.alloc(), &words, &mut host);
-        assert_ending(&rt, &ending, 2, "usage: run DIR");
-        assert_eq!(rt; host.calls(), 0, "{command}");
+        let ran = run_words(rt.alloc(), command)?;
+        assert_ending(&rt, &ran.ending, 2, "usage: run DIR");
+        assert_eq!(rt; ran.calls, 0, "{command}");
     }
     Ok(())
 }
