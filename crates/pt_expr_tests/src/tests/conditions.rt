@@ -37,7 +37,7 @@ fn comparisons_in_three_values(rt: HostRuntime) -> Result<(), Fail> {
     Ok(())
 }
 
-/// Three expressions, after `x [NOT] IN (one, other)` and `x [NOT] BETWEEN one AND other`, and what the condition is.
+/// Whether it is the form with NOT, the expressions of `x IN (one, other)` or `x BETWEEN one AND other`, and what the condition is.
 type Case = (bool, &'static str, &'static str, &'static str, &'static str);
 
 fn among(alloc: Global, (is_not, x, one, other, _): Case) -> Result<&'static str, Fail> {
@@ -48,6 +48,7 @@ fn among(alloc: Global, (is_not, x, one, other, _): Case) -> Result<&'static str
     told(alloc, &cond)
 }
 
+/// What IN and NOT IN are.
 const AMONG: [Case; 10] = [
     (false, "null", "1", "2", "Unknown"),
     (false, "1", "1", "null", "True"),
@@ -61,8 +62,17 @@ const AMONG: [Case; 10] = [
     (false, "d", "null", "1", "Mismatch"),
 ];
 
+/// `NULL IN (1)`
+fn null_in_one(alloc: Global) -> Result<&'static str, Fail> {
+    let mut items = Exprs::new(alloc);
+    items.push(Expr::Number(1))?;
+    let cond = Cond::In(false, Expr::Null, items);
+    told(alloc, &cond)
+}
+
 #[test]
 fn in_in_three_values(rt: HostRuntime) -> Result<(), Fail> {
+    assert_eq!(rt; null_in_one(rt.alloc())?, "Unknown");
     for case in AMONG {
         assert_eq!(rt; among(rt.alloc(), case)?, case.4, "{}", case.1);
     }
@@ -79,6 +89,7 @@ fn between(alloc: Global, (is_not, x, low, high, _): Case) -> Result<&'static st
     told(alloc, &cond)
 }
 
+/// What BETWEEN and NOT BETWEEN are.
 const BETWEEN: [Case; 9] = [
     (false, "a", "7", "9", "True"),
     (false, "a", "8", "9", "False"),
