@@ -1,5 +1,5 @@
 ghost use Rattle.std.specs.Prelude.{◌≡◌, ◌≤◌, ◌+◌, ◌^◌, length, IfOk, OnOk, Ok};
-ghost use Rattle.pt_host.specs.World.{HasCause};
+ghost use Rattle.pt_host.specs.Counts.{HasCause};
 ghost use Rattle.pt_dirhost.specs.Untold.{untold};
 
 use crate::system::System;
@@ -28,9 +28,7 @@ impl<R: Runtime> DirHost<R> {
     /// A host over the runtime's files, input and output. It takes no memory; later calls take it from `alloc`, and want
     /// of it is a failure of the call.
     pub fn make(alloc: Global, rt: R) -> DirHost<R>
-        ensures disk { ⟦<DirHost<R> as Host>⟧.disk_faults result ≡ 0 }
-        ensures input { ⟦<DirHost<R> as Host>⟧.in_faults result ≡ 0 }
-        ensures output { ⟦<DirHost<R> as Host>⟧.out_faults result ≡ 0 }
+        ensures { ⟦<DirHost<R> as Host>⟧.counts result ≡ record { disk = 0; input = 0; output = 0 } }
     {
         DirHost {
             system: System::new(alloc, rt),
@@ -46,11 +44,7 @@ impl<R: Runtime> Host for DirHost<R> {
 
     ghost world = { λ _. untold };
 
-    ghost disk_faults = { λ host. host.disk_faults };
-
-    ghost in_faults = { λ host. host.in_faults };
-
-    ghost out_faults = { λ host. host.out_faults };
+    ghost counts = { λ host. record { disk = host.disk_faults; input = host.in_faults; output = host.out_faults } };
 
     fn enter(&mut self, dir: &str) -> Result<(), HostFail> {
         let answer = self.system.enter(dir);

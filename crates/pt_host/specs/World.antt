@@ -89,16 +89,6 @@ pub record Takes (input : List ℕ) (count : ℕ) (before after : List ℕ) : Ty
   pub bytes : after ≡ take count input ++ drop count before
   pub at_end : count ≡ 0 → input ≡ []
 
--- `now` is greater than `before`, or stands at the counter's last value
-abbrev pub Rose : ℕ → ℕ → Type 0
-Rose before now = min (before + 1) (2 ^ 64 - 1) ≤ now
-
--- A failure is answered only where the count rose, and the count rises only there.
-pub record HasCause {T E : Type 0} (before now : ℕ) (result : Result T E) : Type 0 where
-  pub later : before ≤ now
-  pub failed : OnErr result (Rose before now)
-  pub kept : OnOk result (now ≡ before)
-
 -- Of a run of calls: the moments that were added have P.
 pub record Since (old new : World) (P : Moment → Type 0) : Type 0 where
   pub added : List Moment

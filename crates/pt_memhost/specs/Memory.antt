@@ -1,6 +1,7 @@
 -- A host in memory, as its callers see it.
 use Rattle.std.specs.Prelude.{ℕ, ◌-◌, ◌^◌, min, List, [], Option, None}
 use Rattle.pt_host.specs.World.{World}
+use Rattle.pt_host.specs.Counts.{Counts}
 use Rattle.pt_memhost.specs.Story.{Story, world_of}
 
 pub record Memory : Type 0 where
@@ -10,9 +11,7 @@ pub record Memory : Type 0 where
   pub calls : ℕ
   pub starved : ℕ
   -- how often the directory, the input and the output have failed
-  pub disk_faults : ℕ
-  pub in_faults : ℕ
-  pub out_faults : ℕ
+  pub counts : Counts
   -- the numbers of the calls that are to fail, counted from 0
   pub ordered : List ℕ
   -- how many more calls pass, where not all do
@@ -24,9 +23,7 @@ fresh files input = record {
   story = record { files = files; input = input; events = [] };
   calls = 0;
   starved = 0;
-  disk_faults = 0;
-  in_faults = 0;
-  out_faults = 0;
+  counts = record { disk = 0; input = 0; output = 0 };
   ordered = [];
   fuse = None;
 }

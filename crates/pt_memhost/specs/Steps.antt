@@ -6,6 +6,7 @@ use Rattle.pt_memhost.specs.declared.host.turns.Side.TheVariants.{Disk, Input, O
 use Rattle.pt_memhost.specs.Story.{with_event}
 use Rattle.pt_memhost.specs.Memory.{Memory, capped}
 use Rattle.pt_memhost.specs.Turns.{burnt}
+use Rattle.pt_host.specs.Counts.{Counts, DiskFailed, InputFailed, OutputFailed}
 
 -- one more call
 abbrev pub after_turn : Memory → Memory
@@ -15,17 +16,20 @@ after_turn memory = record memory { calls = capped (memory.calls + 1); fuse = bu
 abbrev pub running : Memory → Event → Memory
 running memory event = record memory { story = with_event memory.story event }
 
--- how often one of the three has failed
-abbrev pub faults_of : Side → Memory → ℕ
-faults_of Disk memory = memory.disk_faults
-faults_of Input memory = memory.in_faults
-faults_of Output memory = memory.out_faults
-
 -- one of the three has failed once more
+abbrev pub raised : Side → Counts → Counts
+raised Disk counts = record counts { disk = capped (counts.disk + 1) }
+raised Input counts = record counts { input = capped (counts.input + 1) }
+raised Output counts = record counts { output = capped (counts.output + 1) }
+
 abbrev pub refusing : Side → Memory → Memory
-refusing Disk memory = record memory { disk_faults = capped (memory.disk_faults + 1) }
-refusing Input memory = record memory { in_faults = capped (memory.in_faults + 1) }
-refusing Output memory = record memory { out_faults = capped (memory.out_faults + 1) }
+refusing side memory = record memory { counts = raised side memory.counts }
+
+-- That one failed, and nothing else.
+abbrev pub HasFailed : Side → Counts → Counts → Type 0
+HasFailed Disk old new = DiskFailed old new
+HasFailed Input old new = InputFailed old new
+HasFailed Output old new = OutputFailed old new
 
 -- and memory was wanting once more
 abbrev pub starving : Side → Memory → Memory

@@ -1,7 +1,8 @@
 -- Which calls of a host in memory fail, and what is done of them.
 use Rattle.std.specs.Prelude.{◌≡◌, ◌⊎◌, ℕ, ◌+◌, ◌-◌, ◌%◌, ◌≤◌, Bool, false, cond, ◌==◌, Option, Some, None, Result, OnErr, IsErr}
 use Rattle.std.specs.List.{list_any}
-use Rattle.pt_host.specs.World.{World, Rose, HasCause}
+use Rattle.pt_host.specs.World.{World}
+use Rattle.pt_host.specs.Counts.{Rose, HasCause}
 use Rattle.pt_memhost.specs.declared.host.turns.Turn.{Turn}
 use Rattle.pt_memhost.specs.declared.host.turns.Turn.TheVariants.{Passes, Ordered, Spent}
 use Rattle.pt_memhost.specs.Memory.{Memory, capped, world_in}

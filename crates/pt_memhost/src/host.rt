@@ -33,7 +33,7 @@ impl Model for MemHost {
 
     ghost Value = { Memory };
 
-    ghost view = { λ host. record { story = host.kept; calls = host.calls; starved = host.starved; disk_faults = host.disk_faults; in_faults = host.in_faults; out_faults = host.out_faults; ordered = host.ordered; fuse = host.fuse } };
+    ghost view = { λ host. record { story = host.kept; calls = host.calls; starved = host.starved; counts = record { disk = host.disk_faults; input = host.in_faults; output = host.out_faults }; ordered = host.ordered; fuse = host.fuse } };
 }
 
 impl MemHost {

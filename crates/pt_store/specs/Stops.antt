@@ -1,15 +1,15 @@
 -- Why a call stopped, and what it may then have cost.
-use Rattle.std.specs.Prelude.{◌≡◌, ℕ, ◌≤◌, List, Result, Ok, Err}
-use Rattle.pt_host.specs.World.{Rose}
+use Rattle.std.specs.Prelude.{◌≡◌, ℕ, List, Result, Ok, Err}
+use Rattle.pt_host.specs.Counts.{Counts, DiskFailed}
 use Rattle.pt_store.specs.declared.stop.Stop.{Stop}
 use Rattle.pt_store.specs.declared.stop.Stop.TheVariants.{NoMemory, Fault, Bad}
 
--- A fault is answered only where the count of the disk's faults rose, and no other answer leaves it changed.
-abbrev pub Counts : {T : Type 0} → ℕ → ℕ → Result T Stop → Type 0
-Counts before now (Ok x) = now ≡ before
-Counts before now (Err NoMemory) = now ≡ before
-Counts before now (Err Fault) = (before ≤ now) × Rose before now
-Counts before now (Err (Bad name place)) = now ≡ before
+-- A fault is answered only where the count of the disk's faults rose, and no other answer changes a count.
+abbrev pub IsCounted : {T : Type 0} → Counts → Counts → Result T Stop → Type 0
+IsCounted old new (Ok x) = new ≡ old
+IsCounted old new (Err NoMemory) = new ≡ old
+IsCounted old new (Err Fault) = DiskFailed old new
+IsCounted old new (Err (Bad name place)) = new ≡ old
 
 -- what holds where the answer is that memory ran out, that the disk failed, or that a file is bad
 abbrev pub OnNoMemory : {T : Type 0} → Result T Stop → Type 0 → Type 0

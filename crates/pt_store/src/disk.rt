@@ -2,12 +2,13 @@
 ghost use Rattle.std.specs.Prelude.{◌≡◌, ◌+◌, ◌≤◌, [], length, take, drop, IfOk, OnOk, IsSome, IsSomeAnd};
 ghost use Rattle.std.specs.Option.{option_map};
 ghost use Rattle.pt_host.specs.Disk.{IsImage, shown};
-ghost use Rattle.pt_host.specs.World.{HasCause, IsQuiet};
+ghost use Rattle.pt_host.specs.World.{IsQuiet};
+ghost use Rattle.pt_host.specs.Counts.{DiskCall};
 ghost use Rattle.pt_host.specs.Images.{IsHeld};
 ghost use Rattle.pt_host.specs.Replacement.{AsBeforeBut, IsBeforeOrAfter, IsClear, IsReady};
 ghost use Rattle.pt_store.specs.Left.{whole_name, shadow_name};
 ghost use Rattle.pt_store.specs.Entries.{HasEntries, IsMeaningless};
-ghost use Rattle.pt_store.specs.Stops.{Counts, IfBad};
+ghost use Rattle.pt_store.specs.Stops.{IsCounted, IfBad};
 
 use crate::entry::Entry;
 use crate::parse::parse;
@@ -22,9 +23,7 @@ pub(crate) fn clear_shadow<H: Host>(host: &mut H) -> Result<(), HostFail>
     requires settled { H.tells → (H.world host.old).now.fs.pending ≡ [] }
     ensures clear { OnOk result (H.tells → IsClear (H.world host.new).now.fs shadow_name) }
     ensures quiet { H.tells → IsQuiet (H.world host.old) (H.world host.new) (AsBeforeBut (H.world host.old).now.fs shadow_name) }
-    ensures disk { HasCause (H.disk_faults host.old) (H.disk_faults host.new) result }
-    ensures input { H.in_faults host.new ≡ H.in_faults host.old }
-    ensures output { H.out_faults host.new ≡ H.out_faults host.old }
+    ensures counts { DiskCall (H.counts host.old) (H.counts host.new) result }
 {
     let shadow = names::shadow();
     if host.length(&shadow)?.is_some() {
@@ -41,9 +40,7 @@ pub(crate) fn read_entries<H: Host>(alloc: Global, host: &mut H) -> Result<List<
     ensures same { H.tells → (H.world host.new).now.fs ≡ (H.world host.old).now.fs }
     ensures quiet { H.tells → IsQuiet (H.world host.old) (H.world host.new) (IsImage (H.world host.old).now.fs) }
     ensures bad { IfBad result (λ name place. (name ≡ whole_name) × (place ≡ 0) × (H.tells → IsMeaningless (shown (H.world host.old).now.fs whole_name))) }
-    ensures disk { Counts (H.disk_faults host.old) (H.disk_faults host.new) result }
-    ensures input { H.in_faults host.new ≡ H.in_faults host.old }
-    ensures output { H.out_faults host.new ≡ H.out_faults host.old }
+    ensures counts { IsCounted (H.counts host.old) (H.counts host.new) result }
 {
     let Some(bytes) = read_whole(alloc, host)? else {
         return Ok(List::new(alloc));
@@ -64,9 +61,7 @@ fn read_whole<H: Host>(alloc: Global, host: &mut H) -> Result<Option<Vec<u8>>, S
     ensures same { H.tells → (H.world host.new).now.fs ≡ (H.world host.old).now.fs }
     ensures quiet { H.tells → IsQuiet (H.world host.old) (H.world host.new) (IsImage (H.world host.old).now.fs) }
     ensures bad { IfBad result (λ name place. (name ≡ whole_name) × (place ≡ 0) × (H.tells → ⊥)) }
-    ensures disk { Counts (H.disk_faults host.old) (H.disk_faults host.new) result }
-    ensures input { H.in_faults host.new ≡ H.in_faults host.old }
-    ensures output { H.out_faults host.new ≡ H.out_faults host.old }
+    ensures counts { IsCounted (H.counts host.old) (H.counts host.new) result }
 {
     let Some(length) = host.length(&names::whole())? else {
         return Ok(None);
@@ -87,9 +82,7 @@ pub(crate) fn read_range<H: Host>(
     ensures same { H.tells → (H.world host.new).now.fs ≡ (H.world host.old).now.fs }
     ensures quiet { H.tells → IsQuiet (H.world host.old) (H.world host.new) (IsImage (H.world host.old).now.fs) }
     ensures bad { IfBad result (λ name place. (name ≡ whole_name) × (place ≡ 0) × (H.tells → ⊥)) }
-    ensures disk { Counts (H.disk_faults host.old) (H.disk_faults host.new) result }
-    ensures input { H.in_faults host.new ≡ H.in_faults host.old }
-    ensures output { H.out_faults host.new ≡ H.out_faults host.old }
+    ensures counts { IsCounted (H.counts host.old) (H.counts host.new) result }
 {
     let whole = names::whole();
     let mut bytes = Vec::from_elem(alloc, 0u8, count as usize)?;

@@ -10,7 +10,7 @@
 //! - At each moment of `attach` and `read`, every image of the directory stands for the map of before (`IsQuiet`).
 //! - At each moment of `replace`, every image stands for the old map or the new one, and for the new one once it has
 //!   answered `Ok` (`IsEither`, `IsStore`).
-//! - `Fault` is answered only where the host's count of disk faults rose in that call (`Counts`), for every host.
+//! - `Fault` is answered only where the host's count of disk faults rose in that call (`IsCounted`), for every host.
 //!
 //! `whole.map` is replaced by its shadow: an old shadow is removed, the new one is made, filled and synced, and then
 //! renamed, with a sync of names after each change of names that the next step rests on.

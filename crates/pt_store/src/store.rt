@@ -5,7 +5,7 @@ ghost use Rattle.pt_host.specs.Listed.{AreRising, by_name};
 ghost use Rattle.pt_host.specs.World.{World, IsQuiet};
 ghost use Rattle.pt_host.specs.Replacement.{AsBeforeBut};
 ghost use Rattle.pt_store.specs.Left.{whole_name, shadow_name, serials_name, Left, IsLeft, IsEither};
-ghost use Rattle.pt_store.specs.Stops.{Counts, IfBad, OnFault, OnNoMemory};
+ghost use Rattle.pt_store.specs.Stops.{IsCounted, IfBad, OnFault, OnNoMemory};
 ghost use Rattle.pt_store.specs.Entries.{length_in};
 ghost use Rattle.pt_store.specs.Store.{IsStore, IsStanding, is_live, sizes, sizes_of};
 
@@ -44,9 +44,7 @@ impl Store {
         ensures bad { IfBad result (λ name place. (name ≡ whole_name) × (place ≡ 0) × (H.tells → (files : Listed (Listed ℕ × Listed ℕ)) → Left (shown (H.world host.old).now.fs) files → ⊥)) }
         ensures live { IfOk result (λ store. IsTrue (is_live store)) }
         ensures serials { IfOk result (λ store. IsSome (length_in (sizes store) serials_name)) }
-        ensures disk { Counts (H.disk_faults host.old) (H.disk_faults host.new) result }
-        ensures input { H.in_faults host.new ≡ H.in_faults host.old }
-        ensures output { H.out_faults host.new ≡ H.out_faults host.old }
+        ensures counts { IsCounted (H.counts host.old) (H.counts host.new) result }
     {
         clear_shadow(host)?;
         let mut entries = read_entries(alloc, host)?;
@@ -99,9 +97,7 @@ impl Store {
         // At every moment, whatever is answered, the directory stands for it.
         ensures left { H.tells → (files : Listed (Listed ℕ × Listed ℕ)) → IsStore self.now files (H.world host.old) → IsQuiet (H.world host.old) (H.world host.new) (IsLeft files) }
         ensures bad { IfBad result (λ name place. (name ≡ whole_name) × (place ≡ 0) × (H.tells → ⊥)) }
-        ensures disk { Counts (H.disk_faults host.old) (H.disk_faults host.new) result }
-        ensures input { H.in_faults host.new ≡ H.in_faults host.old }
-        ensures output { H.out_faults host.new ≡ H.out_faults host.old }
+        ensures counts { IsCounted (H.counts host.old) (H.counts host.new) result }
     {
         let entry = entry_of(self.entries.items(), name).unwrap();
         if entry.length == 0 {
@@ -131,9 +127,7 @@ impl Store {
         ensures memory { OnNoMemory result ((self.new ≡ self.old) × (H.tells → H.world host.new ≡ H.world host.old)) }
         ensures fault { OnFault result (is_live self.new ≡ false) }
         ensures bad { IfBad result (λ name place. ⊥) }
-        ensures disk { Counts (H.disk_faults host.old) (H.disk_faults host.new) result }
-        ensures input { H.in_faults host.new ≡ H.in_faults host.old }
-        ensures output { H.out_faults host.new ≡ H.out_faults host.old }
+        ensures counts { IsCounted (H.counts host.old) (H.counts host.new) result }
     {
         let (bytes, entries) = spell(alloc, files.items())?;
         self.live = false;

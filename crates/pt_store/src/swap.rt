@@ -1,6 +1,7 @@
 //! The file that the map stands in, replaced whole by its shadow.
 ghost use Rattle.std.specs.Prelude.{◌≡◌, [], OnOk, IsSome};
-ghost use Rattle.pt_host.specs.World.{HasCause, IsQuiet};
+ghost use Rattle.pt_host.specs.World.{IsQuiet};
+ghost use Rattle.pt_host.specs.Counts.{DiskCall};
 ghost use Rattle.pt_host.specs.Images.{IsHeld};
 ghost use Rattle.pt_host.specs.Replacement.{AsBeforeBut, IsBeforeOrAfter, IsClear, IsReady};
 ghost use Rattle.pt_store.specs.Left.{whole_name, shadow_name};
@@ -16,9 +17,7 @@ pub(crate) fn replace_whole<H: Host>(host: &mut H, bytes: &[u8]) -> Result<(), H
     ensures held { OnOk result (H.tells → IsHeld (H.world host.new).now.fs whole_name bytes.now) }
     ensures settled { OnOk result (H.tells → (H.world host.new).now.fs.pending ≡ []) }
     ensures quiet { H.tells → IsQuiet (H.world host.old) (H.world host.new) (IsBeforeOrAfter (H.world host.old).now.fs whole_name shadow_name bytes.now) }
-    ensures disk { HasCause (H.disk_faults host.old) (H.disk_faults host.new) result }
-    ensures input { H.in_faults host.new ≡ H.in_faults host.old }
-    ensures output { H.out_faults host.new ≡ H.out_faults host.old }
+    ensures counts { DiskCall (H.counts host.old) (H.counts host.new) result }
 {
     clear_shadow(host)?;
     fill_shadow(host, bytes)?;
@@ -32,9 +31,7 @@ fn fill_shadow<H: Host>(host: &mut H, bytes: &[u8]) -> Result<(), HostFail>
     requires { H.tells → IsClear (H.world host.old).now.fs shadow_name }
     ensures ready { OnOk result (H.tells → IsReady (H.world host.new).now.fs shadow_name bytes.now) }
     ensures quiet { H.tells → IsQuiet (H.world host.old) (H.world host.new) (AsBeforeBut (H.world host.old).now.fs shadow_name) }
-    ensures disk { HasCause (H.disk_faults host.old) (H.disk_faults host.new) result }
-    ensures input { H.in_faults host.new ≡ H.in_faults host.old }
-    ensures output { H.out_faults host.new ≡ H.out_faults host.old }
+    ensures counts { DiskCall (H.counts host.old) (H.counts host.new) result }
 {
     let shadow = names::shadow();
     host.create(&shadow)?;

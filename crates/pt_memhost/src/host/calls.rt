@@ -1,7 +1,8 @@
 ghost use Rattle.std.specs.Prelude.{◌≡◌, ◌⊎◌, ◌≢◌, ◌≤◌, ◌<◌, ◌+◌, ◌/◌, ◌^◌, length, take, IfOk, OnOk, OnErr, IsSome, IsSomeAnd, Some, None};
 ghost use Rattle.std.specs.Option.{option_map};
 ghost use Rattle.pt_host.specs.Disk.{shown, with_op, created, Rename, Unlink};
-ghost use Rattle.pt_host.specs.World.{after_enter, after_look, after_write, after_sync, after_fs, after_sync_names, after_take, after_say, FailedWrite, FailedSay, Lists, Reads, Takes, HasCause};
+ghost use Rattle.pt_host.specs.World.{after_enter, after_look, after_write, after_sync, after_fs, after_sync_names, after_take, after_say, FailedWrite, FailedSay, Lists, Reads, Takes};
+ghost use Rattle.pt_host.specs.Counts.{DiskCall, InputCall, OutputCall};
 ghost use Rattle.pt_memhost.specs.Story.{after_event, after_torn_by};
 ghost use Rattle.pt_memhost.specs.Memory.{world_in};
 ghost use Rattle.pt_memhost.specs.Turns.{Obeys, Refuses, if_odd};
@@ -22,9 +23,7 @@ impl MemHost {
         ensures ok { OnOk result (world_in self.new ≡ after_event event (world_in self.old)) }
         ensures failed { OnErr result ((world_in self.new ≡ world_in self.old) ⊎ (world_in self.new ≡ after_event event (world_in self.old))) }
         ensures obeys { Obeys (if_odd self.old.calls (after_event event)) self.old self.new result }
-        ensures disk { HasCause self.old.disk_faults self.new.disk_faults result }
-        ensures input { self.new.in_faults ≡ self.old.in_faults }
-        ensures output { self.new.out_faults ≡ self.old.out_faults }
+        ensures counts { DiskCall self.old.counts self.new.counts result }
     {
         let odd = self.calls % 2 == 1;
         match self.turn() {
@@ -53,11 +52,7 @@ impl Host for MemHost {
 
     ghost world = { world_in };
 
-    ghost disk_faults = { λ host. host.disk_faults };
-
-    ghost in_faults = { λ host. host.in_faults };
-
-    ghost out_faults = { λ host. host.out_faults };
+    ghost counts = { λ host. host.counts };
 
     ghost sound = { λ host told. law host.story };
 
@@ -65,9 +60,7 @@ impl Host for MemHost {
         requires { (world_in self.old).dir ≡ None }
         ensures ok { OnOk result (world_in self.new ≡ after_enter dir.now (world_in self.old)) }
         ensures failed { OnErr result (world_in self.new ≡ world_in self.old) }
-        ensures disk { HasCause self.old.disk_faults self.new.disk_faults result }
-        ensures input { self.new.in_faults ≡ self.old.in_faults }
-        ensures output { self.new.out_faults ≡ self.old.out_faults }
+        ensures counts { DiskCall self.old.counts self.new.counts result }
         ensures obeys { Obeys (λ w. w) self.old self.new result }
     {
         self.pass(Side::Disk)?;
@@ -80,9 +73,7 @@ impl Host for MemHost {
         requires { IsSome (world_in self.old).dir }
         ensures ok { IfOk result (λ found. Lists (world_in self.old).now.fs i found name.old name.new) }
         ensures same { world_in self.new ≡ world_in self.old }
-        ensures disk { HasCause self.old.disk_faults self.new.disk_faults result }
-        ensures input { self.new.in_faults ≡ self.old.in_faults }
-        ensures output { self.new.out_faults ≡ self.old.out_faults }
+        ensures counts { DiskCall self.old.counts self.new.counts result }
         ensures obeys { Obeys (λ w. w) self.old self.new result }
     {
         self.pass(Side::Disk)?;
@@ -99,9 +90,7 @@ impl Host for MemHost {
         requires { IsSome (world_in self.old).dir }
         ensures ok { IfOk result (λ length_is. length_is ≡ option_map length (shown (world_in self.old).now.fs name.now)) }
         ensures same { world_in self.new ≡ world_in self.old }
-        ensures disk { HasCause self.old.disk_faults self.new.disk_faults result }
-        ensures input { self.new.in_faults ≡ self.old.in_faults }
-        ensures output { self.new.out_faults ≡ self.old.out_faults }
+        ensures counts { DiskCall self.old.counts self.new.counts result }
         ensures obeys { Obeys (λ w. w) self.old self.new result }
     {
         self.pass(Side::Disk)?;
@@ -114,9 +103,7 @@ impl Host for MemHost {
         ensures bytes { IfOk result (λ count. IsSomeAnd (shown (world_in self.old).now.fs name.now) (λ file. Reads file at count into.old into.new)) }
         ensures ok { OnOk result (world_in self.new ≡ after_look name.now (world_in self.old)) }
         ensures failed { OnErr result ((world_in self.new ≡ world_in self.old) ⊎ (world_in self.new ≡ after_look name.now (world_in self.old))) }
-        ensures disk { HasCause self.old.disk_faults self.new.disk_faults result }
-        ensures input { self.new.in_faults ≡ self.old.in_faults }
-        ensures output { self.new.out_faults ≡ self.old.out_faults }
+        ensures counts { DiskCall self.old.counts self.new.counts result }
         ensures obeys { Obeys (λ w. w) self.old self.new result }
     {
         self.pass(Side::Disk)?;
@@ -132,9 +119,7 @@ impl Host for MemHost {
         ensures fits { OnOk result (at + length bytes.now ≤ 2 ^ 62) }
         ensures ok { OnOk result (world_in self.new ≡ after_write name.now at bytes.now (world_in self.old)) }
         ensures failed { OnErr result (FailedWrite name.now at (length bytes.now) (world_in self.old) (world_in self.new)) }
-        ensures disk { HasCause self.old.disk_faults self.new.disk_faults result }
-        ensures input { self.new.in_faults ≡ self.old.in_faults }
-        ensures output { self.new.out_faults ≡ self.old.out_faults }
+        ensures counts { DiskCall self.old.counts self.new.counts result }
         ensures obeys { at + length bytes.now ≤ 2 ^ 62 → Obeys (after_torn_by name.now at (length bytes.now) (take (length bytes.now / 2) bytes.now)) self.old self.new result }
         ensures past { 2 ^ 62 < at + length bytes.now → Refuses self.old self.new result }
     {
@@ -161,9 +146,7 @@ impl Host for MemHost {
         requires { IsSome (shown (world_in self.old).now.fs name.now) }
         ensures ok { OnOk result (world_in self.new ≡ after_sync name.now (world_in self.old)) }
         ensures failed { OnErr result (world_in self.new ≡ world_in self.old) }
-        ensures disk { HasCause self.old.disk_faults self.new.disk_faults result }
-        ensures input { self.new.in_faults ≡ self.old.in_faults }
-        ensures output { self.new.out_faults ≡ self.old.out_faults }
+        ensures counts { DiskCall self.old.counts self.new.counts result }
         ensures obeys { Obeys (λ w. w) self.old self.new result }
     {
         self.pass(Side::Disk)?;
@@ -175,9 +158,7 @@ impl Host for MemHost {
         requires { shown (world_in self.old).now.fs name.now ≡ None }
         ensures ok { OnOk result (world_in self.new ≡ after_fs (created name.now (world_in self.old).now.fs) (world_in self.old)) }
         ensures failed { OnErr result ((world_in self.new ≡ world_in self.old) ⊎ (world_in self.new ≡ after_fs (created name.now (world_in self.old).now.fs) (world_in self.old))) }
-        ensures disk { HasCause self.old.disk_faults self.new.disk_faults result }
-        ensures input { self.new.in_faults ≡ self.old.in_faults }
-        ensures output { self.new.out_faults ≡ self.old.out_faults }
+        ensures counts { DiskCall self.old.counts self.new.counts result }
         ensures obeys { Obeys (if_odd self.old.calls (λ w. after_fs (created name.now w.now.fs) w)) self.old self.new result }
     {
         self.change_names(Event::Created(*name))
@@ -188,9 +169,7 @@ impl Host for MemHost {
         requires differs { from.now ≢ to.now }
         ensures ok { OnOk result (world_in self.new ≡ after_fs (with_op (Rename from.now to.now) (world_in self.old).now.fs) (world_in self.old)) }
         ensures failed { OnErr result ((world_in self.new ≡ world_in self.old) ⊎ (world_in self.new ≡ after_fs (with_op (Rename from.now to.now) (world_in self.old).now.fs) (world_in self.old))) }
-        ensures disk { HasCause self.old.disk_faults self.new.disk_faults result }
-        ensures input { self.new.in_faults ≡ self.old.in_faults }
-        ensures output { self.new.out_faults ≡ self.old.out_faults }
+        ensures counts { DiskCall self.old.counts self.new.counts result }
         ensures obeys { Obeys (if_odd self.old.calls (λ w. after_fs (with_op (Rename from.now to.now) w.now.fs) w)) self.old self.new result }
     {
         self.change_names(Event::Renamed(*from, *to))
@@ -200,9 +179,7 @@ impl Host for MemHost {
         requires { IsSome (shown (world_in self.old).now.fs name.now) }
         ensures ok { OnOk result (world_in self.new ≡ after_fs (with_op (Unlink name.now) (world_in self.old).now.fs) (world_in self.old)) }
         ensures failed { OnErr result ((world_in self.new ≡ world_in self.old) ⊎ (world_in self.new ≡ after_fs (with_op (Unlink name.now) (world_in self.old).now.fs) (world_in self.old))) }
-        ensures disk { HasCause self.old.disk_faults self.new.disk_faults result }
-        ensures input { self.new.in_faults ≡ self.old.in_faults }
-        ensures output { self.new.out_faults ≡ self.old.out_faults }
+        ensures counts { DiskCall self.old.counts self.new.counts result }
         ensures obeys { Obeys (if_odd self.old.calls (λ w. after_fs (with_op (Unlink name.now) w.now.fs) w)) self.old self.new result }
     {
         self.change_names(Event::Unlinked(*name))
@@ -212,9 +189,7 @@ impl Host for MemHost {
         requires { IsSome (world_in self.old).dir }
         ensures ok { OnOk result (world_in self.new ≡ after_sync_names (world_in self.old)) }
         ensures failed { OnErr result (world_in self.new ≡ world_in self.old) }
-        ensures disk { HasCause self.old.disk_faults self.new.disk_faults result }
-        ensures input { self.new.in_faults ≡ self.old.in_faults }
-        ensures output { self.new.out_faults ≡ self.old.out_faults }
+        ensures counts { DiskCall self.old.counts self.new.counts result }
         ensures obeys { Obeys (λ w. w) self.old self.new result }
     {
         self.pass(Side::Disk)?;
@@ -228,9 +203,7 @@ impl Host for MemHost {
         ensures bytes { IfOk result (λ count. Takes (world_in self.old).input count into.old into.new) }
         ensures ok { IfOk result (λ count. world_in self.new ≡ after_take count (world_in self.old)) }
         ensures failed { OnErr result (world_in self.new ≡ world_in self.old) }
-        ensures disk { self.new.disk_faults ≡ self.old.disk_faults }
-        ensures input { HasCause self.old.in_faults self.new.in_faults result }
-        ensures output { self.new.out_faults ≡ self.old.out_faults }
+        ensures counts { InputCall self.old.counts self.new.counts result }
         ensures obeys { Obeys (λ w. w) self.old self.new result }
     {
         self.pass(Side::Input)?;
@@ -243,9 +216,7 @@ impl Host for MemHost {
     fn say(&mut self, bytes: &[u8]) -> Result<(), HostFail>
         ensures ok { OnOk result (world_in self.new ≡ after_say bytes.now (world_in self.old)) }
         ensures failed { OnErr result (FailedSay bytes.now (world_in self.old) (world_in self.new)) }
-        ensures disk { self.new.disk_faults ≡ self.old.disk_faults }
-        ensures input { self.new.in_faults ≡ self.old.in_faults }
-        ensures output { HasCause self.old.out_faults self.new.out_faults result }
+        ensures counts { OutputCall self.old.counts self.new.counts result }
         ensures obeys { Obeys (after_say (take (length bytes.now / 2) bytes.now)) self.old self.new result }
     {
         match self.turn() {

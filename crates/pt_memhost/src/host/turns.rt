@@ -3,7 +3,7 @@ ghost use Rattle.pt_memhost.specs.declared.host.turns.Turn.TheVariants.{Passes};
 ghost use Rattle.pt_memhost.specs.Story.{after_event};
 ghost use Rattle.pt_memhost.specs.Memory.{world_in};
 ghost use Rattle.pt_memhost.specs.Turns.{turn_of, Raised};
-ghost use Rattle.pt_memhost.specs.Steps.{after_turn, running, faults_of, refusing, starving};
+ghost use Rattle.pt_memhost.specs.Steps.{after_turn, running, HasFailed, refusing, starving};
 
 use super::MemHost;
 use crate::Event;
@@ -56,7 +56,7 @@ impl MemHost {
         ensures passes { OnOk result (turn_of self.old ≡ Passes) }
         ensures err { OnErr result (self.new ≡ refusing side (after_turn self.old)) }
         ensures refused { OnErr result (turn_of self.old ≢ Passes) }
-        ensures raised { OnErr result (Raised (faults_of side self.old) (faults_of side self.new)) }
+        ensures failed { OnErr result (HasFailed side self.old.counts self.new.counts) }
     {
         match self.turn() {
             Turn::Passes => Ok(()),
@@ -67,7 +67,7 @@ impl MemHost {
     /// Raises the count of failures of a side.
     pub(super) fn refuse(&mut self, side: Side) -> HostFail
         ensures value { self.new ≡ refusing side self.old }
-        ensures raised { Raised (faults_of side self.old) (faults_of side self.new) }
+        ensures failed { HasFailed side self.old.counts self.new.counts }
     {
         match side {
             Side::Disk => self.disk_faults = self.disk_faults.saturating_add(1),
@@ -81,7 +81,7 @@ impl MemHost {
     pub(super) fn starve(&mut self, side: Side) -> HostFail
         ensures value { self.new ≡ starving side self.old }
         ensures starved { Raised self.old.starved self.new.starved }
-        ensures raised { Raised (faults_of side self.old) (faults_of side self.new) }
+        ensures failed { HasFailed side self.old.counts self.new.counts }
     {
         self.starved = self.starved.saturating_add(1);
         self.refuse(side)
@@ -93,7 +93,7 @@ impl MemHost {
         ensures world { OnOk result (world_in self.new ≡ after_event event (world_in self.old)) }
         ensures err { OnErr result (self.new ≡ starving side self.old) }
         ensures starved { OnErr result (Raised self.old.starved self.new.starved) }
-        ensures raised { OnErr result (Raised (faults_of side self.old) (faults_of side self.new)) }
+        ensures failed { OnErr result (HasFailed side self.old.counts self.new.counts) }
     {
         match self.kept.run(event) {
             Ok(()) => Ok(()),
@@ -107,7 +107,7 @@ impl MemHost {
         ensures same { OnOk result (self.new ≡ self.old) }
         ensures err { OnErr result (self.new ≡ starving side self.old) }
         ensures starved { OnErr result (Raised self.old.starved self.new.starved) }
-        ensures raised { OnErr result (Raised (faults_of side self.old) (faults_of side self.new)) }
+        ensures failed { OnErr result (HasFailed side self.old.counts self.new.counts) }
     {
         match List::from_slice(self.alloc, bytes) {
             Ok(copy) => Ok(copy),
