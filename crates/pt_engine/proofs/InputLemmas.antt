@@ -4,8 +4,9 @@ use Rattle.std.proofs.lemmas.Grind.{common_steps}
 use Rattle.pt_host.specs.World.{World, after_take}
 use Rattle.pt_host.specs.World.{Takes}
 use Rattle.pt_engine.specs.declared.script.Script.{Script}
-use Rattle.pt_engine.specs.Input.{with_input, TakesOnly, TakesScript, TakesFront}
+use Rattle.pt_engine.specs.Input.{with_input, TakesOnly, TakesScript, TakesFront, TakesWithin}
 use Rattle.pt_engine.specs.Taking.{Takes as Feeds}
+use Rattle.pt_engine.proofs.TakingLemmas.{taken_within}
 
 -- what was taken, and what is left
 taken_bytes : (input before after bytes : List ℕ) (count : ℕ) → Takes input count before after → bytes ≡ take count after → bytes ≡ take count input
@@ -42,3 +43,7 @@ module _ (old w new : World) (script fed : Script) (before after bytes : List �
         too_long = rw input (sym e.1);
         to_the_end = λ f. cc;
       }
+
+-- what was taken up to now passes no limit
+pub stopped_within : (old w : World) (script : Script) → TakesFront old w script → TakesWithin old.input w.input
+stopped_within old w script had = record { taken = had.front; is = had.input; within = taken_within script had.front had.taken }

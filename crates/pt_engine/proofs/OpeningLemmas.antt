@@ -26,7 +26,7 @@ use Rattle.pt_table_files.proofs.Lookups.{by_name_at}
 use Rattle.pt_engine.specs.declared.ending.Ending.{Ending}
 use Rattle.pt_engine.specs.Endings.{ending_of}
 use Rattle.pt_engine.specs.Kept.{HoldsIn}
-use Rattle.pt_engine.specs.Session.{IsDamage}
+use Rattle.pt_engine.specs.Session.{StopsOpening}
 
 -- a name that is listed has a length
 pub listed_has : (sizes : List (List ℕ × ℕ)) (i : ℕ) (name : List ℕ) → option_map (λ (size : List ℕ × ℕ). size.0) (slice_get sizes i) ≡ Some name → IsSome (length_in sizes name)
@@ -71,7 +71,7 @@ out_of_memory T P e is memory = subst (λ s. OnNoMemory {T = T} (Err s) P) is me
 
 pub damage_of : (T : Type 0) (e : Stop) (ending : Ending) (files now : Files) (tells : Type 0) → ending ≡ ending_of e
     → IfBad {T = T} (Err e) (λ name place. (name ≡ whole_name) × (place ≡ 0) × (tells → (map : List (List ℕ × List ℕ)) → Left files map → ⊥)) → (tells → now whole_name ≡ files whole_name) → tells
-    → IsDamage ending (HoldsIn files) (HoldsIn now)
+    → StopsOpening ending (HoldsIn files) (HoldsIn now)
 damage_of T stop.NoMemory ending files now tells is bad same told = rw is tt
 damage_of T stop.Fault ending files now tells is bad same told = rw is tt
 damage_of T (stop.Bad name place) ending files now tells is bad same told =

@@ -14,14 +14,15 @@ use Rattle.pt_flat.specs.declared.data.Db.{Db}
 use Rattle.pt_table_files.specs.Holds.{Holds}
 use Rattle.pt_table_files.proofs.OneDatabase.{holds_one}
 use Rattle.pt_host.specs.Listed.{by_name}
-use Rattle.pt_engine.specs.Causes.{Counts, IsCaused, NoneRose}
+use Rattle.pt_host.specs.Counts.{Counts}
+use Rattle.pt_engine.specs.Causes.{IsCaused, NoneRose}
 use Rattle.pt_engine.specs.Answers.{AreFirst, HoldsAfter}
 use Rattle.pt_engine.specs.Kept.{HoldsIn, IsInOrder, KeepsInOrder, StandsAfter, StandsKeeping}
 use Rattle.pt_engine.specs.Script.{has_excess, statements}
-use Rattle.pt_engine.specs.Session.{StopsOpening, IsDamage}
-use Rattle.pt_engine.specs.Input.{TakesOnly}
-use Rattle.pt_engine.specs.Saying.{StandsFirst, StopsFor}
-use Rattle.pt_engine.specs.Run.{EndsTaken, IsComplete, StandsAt, StandsTaken, TellsDamage}
+use Rattle.pt_engine.specs.Session.{StopsOpening}
+use Rattle.pt_engine.specs.Input.{StopsTaking, TakesOnly, TakesWithin}
+use Rattle.pt_engine.specs.Saying.{StandsFirst}
+use Rattle.pt_engine.specs.Run.{IsComplete, IsRun, StandsAt, StandsTaken, TellsDamage}
 use Rattle.pt_engine.proofs.AnswerLemmas.{says_whole, says_up_to}
 
 -- a directory at rest holds in each image what it shows
@@ -52,6 +53,25 @@ entered_damage ending dir old w new is tells = go ending (subst (λ (u : World).
     go InputFault h = h
     go OutputFault h = h
     go TooLong h = h
+
+entered_stands : (db : Db) (ending : Ending) (dir : List ℕ) (old new : World) → (ending ≡ Usage → ⊥) → StandsAt db ending (after_enter dir old) new → StandsAt db ending old new
+entered_stands db Done dir old new formed h = record { taken = h.taken; within = h.within; stands = h.stands }
+entered_stands db TooLong dir old new formed h = record { passed = h.passed; stands = h.stands }
+entered_stands db Usage dir old new formed h = absurd (formed refl)
+entered_stands db DiskFault dir old new formed h = h
+entered_stands db NoMemory dir old new formed h = h
+entered_stands db (Damaged name place) dir old new formed h = h
+entered_stands db InputFault dir old new formed h = h
+entered_stands db OutputFault dir old new formed h = h
+
+pub entered_run : (ending : Ending) (dir : List ℕ) (old w new : World) → w ≡ after_enter dir old → (ending ≡ Usage → ⊥) → IsRun ending w new → IsRun ending old new
+entered_run ending dir old w new is formed run =
+    let entered = subst (λ (u : World). IsRun ending u new) is run in
+    record {
+      damage = entered_damage ending dir old (after_enter dir old) new refl entered.damage;
+      headline = λ db held. entered_in_order db dir old (after_enter dir old) new refl (entered.headline db) held;
+      stands = λ db held. entered_stands db ending dir old new formed (entered.stands db held);
+    }
 
 -- # No statement was answered yet
 
@@ -93,60 +113,84 @@ module _ (db : Db) (statements : List (List ℕ)) where
 -- # The opening
 
 -- what stands where it stopped
-pub stands_opening : (db : Db) (ending : Ending) (before now : ℕ) (files later : Files) (old new : World) → StopsOpening ending before now → IsDamage ending (HoldsIn files) (HoldsIn later) → HoldsIn files db
+pub stands_opening : (db : Db) (ending : Ending) (files later : Files) (old new : World) → StopsOpening ending (HoldsIn files) (HoldsIn later) → HoldsIn files db
     → new.now.said ≡ old.now.said → EachImage new.now.fs (λ files. HoldsIn files db) → StandsAt db ending old new
-stands_opening db NoMemory before now files later old new stops damage held said holds = (0, stands_none db (statements old.input) old.now.said new said holds)
-stands_opening db DiskFault before now files later old new stops damage held said holds = (0, keeping_none db (statements old.input) old.now.said new said holds)
-stands_opening db (Damaged name place) before now files later old new stops damage held said holds = damage.2 db held
-stands_opening db Done before now files later old new stops damage held said holds = absurd stops
-stands_opening db Usage before now files later old new stops damage held said holds = absurd stops
-stands_opening db InputFault before now files later old new stops damage held said holds = absurd stops
-stands_opening db OutputFault before now files later old new stops damage held said holds = absurd stops
-stands_opening db TooLong before now files later old new stops damage held said holds = absurd stops
+stands_opening db NoMemory files later old new stops held said holds = (0, stands_none db (statements old.input) old.now.said new said holds)
+stands_opening db DiskFault files later old new stops held said holds = (0, keeping_none db (statements old.input) old.now.said new said holds)
+stands_opening db (Damaged name place) files later old new stops held said holds = stops.2 db held
+stands_opening db Done files later old new stops held said holds = absurd stops
+stands_opening db Usage files later old new stops held said holds = absurd stops
+stands_opening db InputFault files later old new stops held said holds = absurd stops
+stands_opening db OutputFault files later old new stops held said holds = absurd stops
+stands_opening db TooLong files later old new stops held said holds = absurd stops
+
+-- what is told of damage where it stopped
+pub tells_opening : (ending : Ending) (old new : World) → new.now.said ≡ old.now.said → StopsOpening ending (HoldsIn (shown old.now.fs)) (HoldsIn (shown new.now.fs)) → TellsDamage ending old new
+tells_opening NoMemory old new said stops = tt
+tells_opening DiskFault old new said stops = tt
+tells_opening (Damaged name place) old new said stops = (stops.0, stops.1, said, stops.2, stops.3)
+tells_opening Done old new said stops = absurd stops
+tells_opening Usage old new said stops = absurd stops
+tells_opening InputFault old new said stops = absurd stops
+tells_opening OutputFault old new said stops = absurd stops
+tells_opening TooLong old new said stops = absurd stops
 
 -- # The statements
 
-pub caused : (ending : Ending) (old new : Counts) → StopsFor ending old.disk new.disk old.output new.output → IsCaused old new ending
-caused NoMemory old new why = tt
-caused DiskFault old new why = why
-caused OutputFault old new why = why
-caused Done old new why = absurd why
-caused Usage old new why = absurd why
-caused (Damaged name place) old new why = absurd why
-caused InputFault old new why = absurd why
-caused TooLong old new why = absurd why
-
-pub ends_taken : (ending : Ending) (a b c d : ℕ) (too_long : Bool) → StopsFor ending a b c d → EndsTaken ending too_long
-ends_taken NoMemory a b c d too_long why = tt
-ends_taken DiskFault a b c d too_long why = tt
-ends_taken OutputFault a b c d too_long why = tt
-ends_taken Done a b c d too_long why = absurd why
-ends_taken Usage a b c d too_long why = absurd why
-ends_taken (Damaged name place) a b c d too_long why = absurd why
-ends_taken InputFault a b c d too_long why = absurd why
-ends_taken TooLong a b c d too_long why = absurd why
-
-pub stands_taken : (ending : Ending) (db : Db) (statements : List (List ℕ)) (old new : World) → StandsFirst ending db statements old new → StandsTaken ending db statements old.now.said new
-stands_taken NoMemory db statements old new first = first
-stands_taken DiskFault db statements old new first = first
-stands_taken OutputFault db statements old new first = first
-stands_taken Done db statements old new first = absurd first
-stands_taken Usage db statements old new first = absurd first
-stands_taken (Damaged name place) db statements old new first = absurd first
-stands_taken InputFault db statements old new first = absurd first
-stands_taken TooLong db statements old new first = absurd first
+pub stands_taken : (ending : Ending) (too_long : Bool) (db : Db) (statements : List (List ℕ)) (old new : World) → StandsFirst ending db statements old new → StandsTaken ending too_long db statements old.now.said new
+stands_taken NoMemory too_long db statements old new first = first
+stands_taken DiskFault too_long db statements old new first = first
+stands_taken OutputFault too_long db statements old new first = first
+stands_taken Done too_long db statements old new first = absurd first
+stands_taken Usage too_long db statements old new first = absurd first
+stands_taken (Damaged name place) too_long db statements old new first = absurd first
+stands_taken InputFault too_long db statements old new first = absurd first
+stands_taken TooLong too_long db statements old new first = absurd first
 
 -- The whole run, whose input was taken.
-pub stands_at : (db : Db) (ending : Ending) (too_long : Bool) (old new : World) → EndsTaken ending too_long → StandsTaken ending db (statements old.input) old.now.said new
+pub stands_at : (db : Db) (ending : Ending) (too_long : Bool) (old new : World) → StandsTaken ending too_long db (statements old.input) old.now.said new
     → too_long ≡ has_excess old.input → (too_long ≡ false → new.input ≡ []) → StandsAt db ending old new
-stands_at db Done too_long old new ends stands excess taken = record { taken = taken ends; within = sym excess ∙ ends; stands = stands }
-stands_at db TooLong too_long old new ends stands excess taken = record { passed = sym excess ∙ ends; stands = stands }
-stands_at db NoMemory too_long old new ends stands excess taken = stands
-stands_at db DiskFault too_long old new ends stands excess taken = stands
-stands_at db OutputFault too_long old new ends stands excess taken = stands
-stands_at db Usage too_long old new ends stands excess taken = absurd ends
-stands_at db (Damaged name place) too_long old new ends stands excess taken = absurd ends
-stands_at db InputFault too_long old new ends stands excess taken = absurd ends
+stands_at db Done too_long old new stands excess taken = record { taken = taken stands.0; within = sym excess ∙ stands.0; stands = stands.1 }
+stands_at db TooLong too_long old new stands excess taken = record { passed = sym excess ∙ stands.0; stands = stands.1 }
+stands_at db NoMemory too_long old new stands excess taken = stands
+stands_at db DiskFault too_long old new stands excess taken = stands
+stands_at db OutputFault too_long old new stands excess taken = stands
+stands_at db Usage too_long old new stands excess taken = absurd stands
+stands_at db (Damaged name place) too_long old new stands excess taken = absurd stands
+stands_at db InputFault too_long old new stands excess taken = absurd stands
+
+-- where the directory holds a database, a run that answered what was taken tells of no damage
+pub tells_taken : (ending : Ending) (too_long : Bool) (statements : List (List ℕ)) (before : List ℕ) (session db : Db) (old new : World) → StandsTaken ending too_long session statements before new → HoldsIn (shown old.now.fs) db → TellsDamage ending old new
+tells_taken Done too_long statements before session db old new stands held = (db, held)
+tells_taken TooLong too_long statements before session db old new stands held = (db, held)
+tells_taken OutputFault too_long statements before session db old new stands held = (db, held)
+tells_taken NoMemory too_long statements before session db old new stands held = tt
+tells_taken DiskFault too_long statements before session db old new stands held = tt
+tells_taken Usage too_long statements before session db old new stands held = absurd stands
+tells_taken (Damaged name place) too_long statements before session db old new stands held = absurd stands
+tells_taken InputFault too_long statements before session db old new stands held = absurd stands
+
+-- nor does one whose input could not be taken
+pub tells_stopped : (ending : Ending) (db : Db) (old w new : World) → StopsTaking ending w new → HoldsIn (shown old.now.fs) db → TellsDamage ending old new
+tells_stopped InputFault db old w new stops held = (db, held)
+tells_stopped NoMemory db old w new stops held = tt
+tells_stopped Done db old w new stops held = absurd stops
+tells_stopped TooLong db old w new stops held = absurd stops
+tells_stopped OutputFault db old w new stops held = absurd stops
+tells_stopped DiskFault db old w new stops held = absurd stops
+tells_stopped Usage db old w new stops held = absurd stops
+tells_stopped (Damaged name place) db old w new stops held = absurd stops
+
+-- it took of the input alone
+pub stops_only : (ending : Ending) (w new : World) → StopsTaking ending w new → TakesOnly w new
+stops_only InputFault w new stops = stops.0
+stops_only NoMemory w new stops = stops
+stops_only Done w new stops = absurd stops
+stops_only TooLong w new stops = absurd stops
+stops_only OutputFault w new stops = absurd stops
+stops_only DiskFault w new stops = absurd stops
+stops_only Usage w new stops = absurd stops
+stops_only (Damaged name place) w new stops = absurd stops
 
 -- # The directory is opened, and then the input taken
 
@@ -168,9 +212,18 @@ module _ (db : Db) (old w : World) (rest : IsAtRest old.now.fs) (held : HoldsIn 
         record { added = first.added; grows = ap (λ u. u.moments) only ∙ first.grows; each = first.each }
 
     -- the input failed, or memory ran out
-    pub stands_stopped : (ending : Ending) (Rises : Type 0) → (ending ≡ NoMemory) ⊎ ((ending ≡ InputFault) × Rises) → StandsAt db ending old v
-    stands_stopped ending Rises (inl e) = rw e (0, stands_none db (statements old.input) old.now.said v taken_said taken_holds)
-    stands_stopped ending Rises (inr h) = rw h.0 (stands_none db (statements old.input) old.now.said v taken_said taken_holds)
+    pub stands_stopped : (ending : Ending) → StopsTaking ending w v → StandsAt db ending old v
+    stands_stopped NoMemory stops = (0, stands_none db (statements old.input) old.now.said v taken_said taken_holds)
+    stands_stopped InputFault stops = (
+      stands_none db (statements old.input) old.now.said v taken_said taken_holds,
+      subst (λ input. TakesWithin input v.input) opened_quiet.input stops.1,
+    )
+    stands_stopped Done stops = absurd stops
+    stands_stopped TooLong stops = absurd stops
+    stands_stopped OutputFault stops = absurd stops
+    stands_stopped DiskFault stops = absurd stops
+    stands_stopped Usage stops = absurd stops
+    stands_stopped (Damaged name place) stops = absurd stops
 
     -- the statements were answered
     module _ (session : Db) (pieces : List (List ℕ)) (opened : HoldsIn (shown old.now.fs) session) (are : pieces ≡ statements w.input) where
@@ -183,8 +236,8 @@ module _ (db : Db) (old w : World) (rest : IsAtRest old.now.fs) (held : HoldsIn 
       pub answered_in_order : (new : World) → KeepsInOrder session pieces v new → KeepsInOrder db (statements old.input) old new
       answered_in_order new then = in_order_then db (statements old.input) old v new taken_said taken_in_order (rw (← same_db, ← same_pieces) then)
 
-      pub answered_stands : (ending : Ending) (new : World) → StandsTaken ending session pieces v.now.said new → StandsTaken ending db (statements old.input) old.now.said new
-      answered_stands ending new stands = rw (← same_db, ← same_pieces, ← taken_said) stands
+      pub answered_stands : (ending : Ending) (too_long : Bool) (new : World) → StandsTaken ending too_long session pieces v.now.said new → StandsTaken ending too_long db (statements old.input) old.now.said new
+      answered_stands ending too_long new stands = rw (← same_db, ← same_pieces, ← taken_said) stands
 
 -- # Completeness
 
@@ -196,8 +249,8 @@ pub complete : (ending : Ending) (db : Db) (counts counts_now : Counts) (old new
 complete Done db counts counts_now old new formed caused none stands = rw stands.within (inl refl)
 complete TooLong db counts counts_now old new formed caused none stands = rw stands.passed (inl refl)
 complete NoMemory db counts counts_now old new formed caused none stands = complete_memory (has_excess old.input)
-complete DiskFault db counts counts_now old new formed caused none stands = absurd (none.disk caused)
-complete InputFault db counts counts_now old new formed caused none stands = absurd (none.input caused)
-complete OutputFault db counts counts_now old new formed caused none stands = absurd (none.output caused)
+complete DiskFault db counts counts_now old new formed caused none stands = absurd (none.disk caused.rose)
+complete InputFault db counts counts_now old new formed caused none stands = absurd (none.input caused.rose)
+complete OutputFault db counts counts_now old new formed caused none stands = absurd (none.output caused.rose)
 complete Usage db counts counts_now old new formed caused none stands = absurd (formed refl)
 complete (Damaged name place) db counts counts_now old new formed caused none stands = absurd stands

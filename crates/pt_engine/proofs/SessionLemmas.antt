@@ -1,7 +1,8 @@
 -- What a session stands for, and one statement in it.
 use Rattle.std.proofs.Common.{◌≡◌, ◌⊎◌, inl, inr, ℕ, List, [], ◌++◌, refl, ap, ◌∙◌, sym, subst, append_assoc}
 use Rattle.std.proofs.lemmas.List.{append-nil}
-use Rattle.std.specs.Prelude.{Option}
+use Rattle.std.specs.Prelude.{Option, Err}
+use Rattle.pt_flat.specs.declared.data.Reply.{Reply}
 use Rattle.pt_host.specs.Disk.{Fs, Files, EachImage}
 use Rattle.pt_host.specs.World.{World, after_say, FailedSay, Since, IsQuiet}
 use Rattle.pt_host.proofs.Runs.{since_then, since_weaken, since_say, after_say_now, after_say_dir, after_say_input, quiet_none, quiet_weaken}
@@ -13,10 +14,10 @@ use Rattle.pt_engine.specs.Kept.{HoldsIn}
 use Rattle.pt_engine.specs.Session.{IsSession, IsWithin}
 use Rattle.pt_flat.specs.declared.data.Stmt.{Stmt}
 use Rattle.pt_engine.specs.declared.ending.Ending.{Ending}
-use Rattle.pt_engine.specs.declared.ending.Ending.TheVariants.{DiskFault, NoMemory, OutputFault}
+use Rattle.pt_engine.specs.declared.ending.Ending.TheVariants.{Done, Usage, DiskFault, NoMemory, Damaged, InputFault, OutputFault, TooLong}
 use Rattle.pt_engine.specs.Reading.{Reads}
 use Rattle.pt_engine.specs.Answers.{after_one, answer_to}
-use Rattle.pt_engine.specs.Saying.{EntersNothing, AnswersOne, StopsOne}
+use Rattle.pt_engine.specs.Saying.{EntersNothing, AnswersOne, Executes, Leaves, StandsOne, StopsOne}
 
 -- a world in which nothing that a session speaks of has changed
 pub session_same : (session : Session) (w v : World) → v.now.fs ≡ w.now.fs → v.dir ≡ w.dir → IsSession session w → IsSession session v
@@ -32,6 +33,17 @@ kept_moments session db w v is quiet = quiet_weaken w v _ _ (λ files either. el
 
 pub same_moments : (session : Session) (db : Db) (w : World) → IsSession session w → IsQuiet w w (λ files. HoldsIn files session.db ⊎ HoldsIn files db)
 same_moments session db w is = quiet_none w _ (λ files image. inl (session_holds session w is files image))
+
+-- what a call left where it stopped, whatever it would have answered
+pub left_err : (T U : Type 0) (after : Session) (w v : World) (ending : Ending) → Leaves {T = T} after w v (Err ending) → Leaves {T = U} after w v (Err ending)
+left_err T U after w v NoMemory left = left
+left_err T U after w v DiskFault left = tt
+left_err T U after w v Done left = absurd left
+left_err T U after w v Usage left = absurd left
+left_err T U after w v (Damaged name place) left = absurd left
+left_err T U after w v InputFault left = absurd left
+left_err T U after w v OutputFault left = absurd left
+left_err T U after w v TooLong left = absurd left
 
 pub enters_nothing : (w v u : World) (P : Files → Type 0) (part : List ℕ) → IsQuiet w v P → u ≡ after_say part v → EntersNothing w u
 enters_nothing w v u P part quiet same = record {
@@ -64,30 +76,31 @@ module _ (db next : Db) (before text : List ℕ) where
 -- One statement, which has this number and is read so.
 module _ (number : ℕ) (piece : List ℕ) (reading : Option Stmt) (reads : Reads piece reading) where
   -- it is kept, and its answer said
-  pub answered_one : (tells : Type 0) (before after : Session) (w v u : World) (text : List ℕ) → after.db ≡ after_one before.db reading → text ≡ answer_to before.db number reading
+  pub answered_one : (tells : Type 0) (before after : Session) (w v u : World) (text : List ℕ) → Executes number reading before after text
       → (tells → IsQuiet w v (λ files. HoldsIn files before.db ⊎ HoldsIn files (after_one before.db reading))) → (tells → IsSession after v) → (tells → u ≡ after_say text v) → AnswersOne tells number piece before after w u
-  answered_one tells before after w v u text after_is is quiet session same = record {
+  answered_one tells before after w v u text done quiet session same = record {
     reading = reading;
     reads = reads;
-    after_is = after_is;
+    after_is = done.after_is;
+    open_still = done.open_still;
     keeps = λ told. record {
       only = enters_nothing w v u _ text (quiet told) (same told);
       moments = kept_then_said before.db (after_one before.db reading) w.now.said (answer_to before.db number reading) w v u refl (quiet told)
-          (λ files image. subst (λ db. HoldsIn files db) after_is (session_holds after v (session told) files image)) text [] (sym is ∙ sym (append-nil text)) (same told);
+          (λ files image. subst (λ db. HoldsIn files db) done.after_is (session_holds after v (session told) files image)) text [] (sym done.text_is ∙ sym (append-nil text)) (same told);
     };
-    said = λ told. ap (λ x. x.now.said) (same told) ∙ ap (λ m. m.said) (after_say_now text v) ∙ ap (λ xs. xs ++ text) (quiet told).said ∙ ap (λ xs. w.now.said ++ xs) is;
+    said = λ told. ap (λ x. x.now.said) (same told) ∙ ap (λ m. m.said) (after_say_now text v) ∙ ap (λ xs. xs ++ text) (quiet told).said ∙ ap (λ xs. w.now.said ++ xs) done.text_is;
     session = λ told.
         session_same after v u (ap (λ x. x.now.fs) (same told) ∙ ap (λ m. m.fs) (after_say_now text v)) (ap (λ x. x.dir) (same told) ∙ after_say_dir text v) (session told);
   }
 
   -- it is kept, and a part of its answer said
-  pub stopped_saying : (before after : Session) (w v u : World) (text : List ℕ) → after.db ≡ after_one before.db reading → text ≡ answer_to before.db number reading
+  pub stopped_saying : (before after : Session) (w v u : World) (text : List ℕ) → Executes number reading before after text
       → IsQuiet w v (λ files. HoldsIn files before.db ⊎ HoldsIn files (after_one before.db reading)) → IsSession after v → FailedSay text v u → StopsOne OutputFault number piece before.db w u
-  stopped_saying before after w v u text after_is is quiet session said =
-      let holds : EachImage v.now.fs (λ files. HoldsIn files (after_one before.db reading)) = λ files image. subst (λ db. HoldsIn files db) after_is (session_holds after v session files image) in
+  stopped_saying before after w v u text done quiet session said =
+      let holds : EachImage v.now.fs (λ files. HoldsIn files (after_one before.db reading)) = λ files image. subst (λ db. HoldsIn files db) done.after_is (session_holds after v session files image) in
       let front = said.0 in
       let rest = said.1 in
-      let parts : answer_to before.db number reading ≡ front ++ rest = sym is ∙ said.2 in
+      let parts : answer_to before.db number reading ≡ front ++ rest = sym done.text_is ∙ said.2 in
       record {
         reading = reading;
         reads = reads;
@@ -102,17 +115,24 @@ module _ (number : ℕ) (piece : List ℕ) (reading : Option Stmt) (reads : Read
       }
 
   -- it isn't kept, or that isn't known
-  pub stopped_keeping : (ending : Ending) (session : Session) (w v : World) (A B C : Type 0) → ((ending ≡ NoMemory) × A) ⊎ ((ending ≡ DiskFault) × B × C)
-      → IsQuiet w v (λ files. HoldsIn files session.db ⊎ HoldsIn files (after_one session.db reading)) → (ending ≡ NoMemory → v ≡ w) → IsSession session w → StopsOne ending number piece session.db w v
-  stopped_keeping ending session w v A B C cause quiet same is = record {
+  pub stopped_keeping : (ending : Ending) (session after : Session) (w v : World)
+      → IsQuiet w v (λ files. HoldsIn files session.db ⊎ HoldsIn files (after_one session.db reading)) → Leaves {T = Reply} after w v (Err ending) → IsSession session w → StopsOne ending number piece session.db w v
+  stopped_keeping ending session after w v quiet leaves is = record {
     reading = reading;
     reads = reads;
     keeps = record {
       only = record { dir = quiet.dir; input = quiet.input };
       moments = quiet_within session.db (after_one session.db reading) w.now.said (answer_to session.db number reading) w v refl quiet;
     };
-    stands = elim cause [
-      | inl memory ↦ rw memory.0 (quiet.said, subst (λ (u : World). EachImage u.now.fs (λ files. HoldsIn files session.db)) (sym (same memory.0)) (session_holds session w is))
-      | inr fault ↦ rw fault.0 (quiet.said, quiet.now)
-    ];
+    stands = stands ending leaves;
   }
+    where
+      stands : (e : Ending) → Leaves {T = Reply} after w v (Err e) → StandsOne e number reading session.db w v
+      stands NoMemory same = (quiet.said, subst (λ (u : World). EachImage u.now.fs (λ files. HoldsIn files session.db)) (sym same) (session_holds session w is))
+      stands DiskFault left = (quiet.said, quiet.now)
+      stands Done left = absurd left
+      stands Usage left = absurd left
+      stands (Damaged name place) left = absurd left
+      stands InputFault left = absurd left
+      stands OutputFault left = absurd left
+      stands TooLong left = absurd left

@@ -5,7 +5,7 @@ use Rattle.std.proofs.lemmas.Bool.Decides.{nat_tests}
 use Rattle.std.proofs.lemmas.List.Folds.{list_all-append}
 use Rattle.std.proofs.lemmas.List.Elements.{filter-append}
 use Rattle.pt_engine.specs.declared.script.Script.{Script}
-use Rattle.pt_engine.specs.Script.{most_piece, most_input, is_blank, with_piece}
+use Rattle.pt_engine.specs.Script.{most_piece, most_input, has_excess, is_blank, with_piece}
 use Rattle.pt_engine.specs.Taking.{IsTaken, IsCutShort, IsWhole}
 use Rattle.pt_engine.proofs.Cuts.{cut_none, cut_closed, cut_byte, whole_cuts, long_cuts, input_cuts}
 
@@ -66,3 +66,10 @@ taken_end old new s all is =
     let room : length all ≤ most_input = rw is.count h in
     let e = whole_cuts all is.closed old.piece is.cut is.short old.short room in
     record { statements = s ∙ with_piece-filter old.piece is.closed old.statements is.statements ∙ ap (filter is_statement) (sym e.0); within = e.1 }
+
+-- nothing that was taken passes a limit
+pub taken_within : (script : Script) (front : List ℕ) → IsTaken front script → has_excess front ≡ false
+taken_within script front is =
+    let h = script.within in
+    let room : length front ≤ most_input = rw is.count h in
+    (whole_cuts front is.closed script.piece is.cut is.short script.short room).1

@@ -3,6 +3,8 @@ use Rattle.std.specs.Prelude.{◌≡◌, false, List, [], ℕ, ◌++◌}
 use Rattle.pt_host.specs.World.{World}
 use Rattle.pt_engine.specs.declared.script.Script.{Script}
 use Rattle.pt_engine.specs.declared.input.Taken.{Taken}
+use Rattle.pt_engine.specs.declared.ending.Ending.{Ending}
+use Rattle.pt_engine.specs.declared.ending.Ending.TheVariants.{NoMemory, InputFault}
 use Rattle.pt_engine.specs.Script.{has_excess, statements}
 use Rattle.pt_engine.specs.Taking.{IsTaken}
 
@@ -13,6 +15,12 @@ with_input input w = record { dir = w.dir; input = input; now = w.now; moments =
 -- nothing but the input has changed
 abbrev pub TakesOnly : World → World → Type 0
 TakesOnly old new = new ≡ with_input new.input old
+
+-- What was taken of the input, up to this rest of it, passes no limit.
+pub record TakesWithin (input rest : List ℕ) : Type 0 where
+  pub taken : List ℕ
+  pub is : input ≡ taken ++ rest
+  pub within : has_excess taken ≡ false
 
 -- the statements of the input, which was taken to its end where it keeps the limits
 pub record TakesScript (old new : World) (taken : Taken) : Type 0 where
@@ -27,3 +35,9 @@ pub record TakesFront (old new : World) (script : Script) : Type 0 where
   pub front : List ℕ
   pub taken : IsTaken front script
   pub input : old.input ≡ front ++ new.input
+
+-- Where it stopped: the input failed, and nothing that was taken passes a limit; or memory was wanting.
+abbrev pub StopsTaking : Ending → World → World → Type 0
+StopsTaking InputFault old new = TakesOnly old new × TakesWithin old.input new.input
+StopsTaking NoMemory old new = TakesOnly old new
+StopsTaking _ old new = ⊥

@@ -8,7 +8,10 @@ use Rattle.pt_flat.specs.declared.data.Db.{Db}
 use Rattle.pt_engine.specs.declared.ending.Ending.{Ending}
 use Rattle.pt_engine.specs.declared.ending.Ending.TheVariants.{Done, Usage, DiskFault, NoMemory, Damaged, InputFault, OutputFault, TooLong}
 use Rattle.pt_engine.specs.Script.{has_excess, statements}
-use Rattle.pt_engine.specs.Kept.{HoldsIn, StandsAfter, StandsKeeping, StandsSaying}
+use Rattle.pt_engine.specs.declared.input.Taken.{Taken}
+use Rattle.pt_engine.specs.Kept.{HoldsIn, KeepsInOrder, StandsAfter, StandsKeeping, StandsSaying}
+use Rattle.pt_engine.specs.Input.{TakesWithin}
+use Rattle.pt_engine.specs.Saying.{EntersNothing}
 
 -- The word DIR of `run DIR`, which is the one form of words.
 abbrev pub dir_of : List (List ℕ) → Option (List ℕ)
@@ -34,7 +37,7 @@ abbrev pub StandsAt : Db → Ending → World → World → Type 0
 StandsAt db Done old new = IsWholeRun db old new
 StandsAt db TooLong old new = IsCutRun db old new
 StandsAt db NoMemory old new = (k : ℕ) × StandsAfter db (statements old.input) old.now.said new k
-StandsAt db InputFault old new = StandsAfter db (statements old.input) old.now.said new 0
+StandsAt db InputFault old new = StandsAfter db (statements old.input) old.now.said new 0 × TakesWithin old.input new.input
 StandsAt db DiskFault old new = (k : ℕ) × StandsKeeping db (statements old.input) old.now.said new k
 StandsAt db OutputFault old new = (k : ℕ) × StandsSaying db (statements old.input) old.now.said new k
 StandsAt db Usage old new = new ≡ old
@@ -59,20 +62,23 @@ abbrev pub IsComplete : Bool → Ending → Type 0
 IsComplete false ending = (ending ≡ Done) ⊎ (ending ≡ NoMemory)
 IsComplete true ending = (ending ≡ TooLong) ⊎ (ending ≡ NoMemory)
 
--- how a run whose input was taken ends
-abbrev pub EndsTaken : Ending → Bool → Type 0
-EndsTaken Done too_long = too_long ≡ false
-EndsTaken TooLong too_long = too_long ≡ true
-EndsTaken NoMemory too_long = Unit {0}
-EndsTaken DiskFault too_long = Unit {0}
-EndsTaken OutputFault too_long = Unit {0}
-EndsTaken _ too_long = ⊥
+-- All that a run over a directory tells, but for the directory that it enters.
+pub record IsRun (ending : Ending) (old new : World) : Type 0 where
+  pub damage : TellsDamage ending old new
+  pub headline : (db : Db) → HoldsIn (shown old.now.fs) db → KeepsInOrder db (statements old.input) old new
+  pub stands : (db : Db) → HoldsIn (shown old.now.fs) db → StandsAt db ending old new
 
--- what stands of the statements at its end, behind what was said before
-abbrev pub StandsTaken : Ending → Db → List (List ℕ) → List ℕ → World → Type 0
-StandsTaken Done db statements before new = StandsAfter db statements before new (length statements)
-StandsTaken TooLong db statements before new = StandsAfter db statements before new (length statements)
-StandsTaken NoMemory db statements before new = (k : ℕ) × StandsAfter db statements before new k
-StandsTaken DiskFault db statements before new = (k : ℕ) × StandsKeeping db statements before new k
-StandsTaken OutputFault db statements before new = (k : ℕ) × StandsSaying db statements before new k
-StandsTaken _ db statements before new = ⊥
+-- how the answering of what was taken ends, and what then stands of the statements, behind what was said before
+abbrev pub StandsTaken : Ending → Bool → Db → List (List ℕ) → List ℕ → World → Type 0
+StandsTaken Done too_long db statements before new = (too_long ≡ false) × StandsAfter db statements before new (length statements)
+StandsTaken TooLong too_long db statements before new = (too_long ≡ true) × StandsAfter db statements before new (length statements)
+StandsTaken NoMemory too_long db statements before new = (k : ℕ) × StandsAfter db statements before new k
+StandsTaken DiskFault too_long db statements before new = (k : ℕ) × StandsKeeping db statements before new k
+StandsTaken OutputFault too_long db statements before new = (k : ℕ) × StandsSaying db statements before new k
+StandsTaken _ too_long db statements before new = ⊥
+
+-- What was taken of the input was answered, to its end or in part.
+pub record AnswersTaken (ending : Ending) (db : Db) (taken : Taken) (old new : World) : Type 0 where
+  pub only : EntersNothing old new
+  pub in_order : KeepsInOrder db taken.statements old new
+  pub stands : StandsTaken ending taken.too_long db taken.statements old.now.said new

@@ -1,7 +1,7 @@
 -- What is kept and said while statements are answered. (In the shape of the code.)
-use Rattle.std.specs.Prelude.{◌≡◌, ◌⊎◌, ℕ, List, ◌++◌, Option}
+use Rattle.std.specs.Prelude.{◌≡◌, ◌⊎◌, ℕ, List, ◌++◌, Option, Result, Ok, Err}
 use Rattle.pt_host.specs.Disk.{EachImage}
-use Rattle.pt_host.specs.World.{World, Rose, Since}
+use Rattle.pt_host.specs.World.{World, Since, IsQuiet}
 use Rattle.pt_flat.specs.declared.data.Db.{Db}
 use Rattle.pt_flat.specs.declared.data.Stmt.{Stmt}
 use Rattle.pt_engine.specs.declared.session.Session.{Session}
@@ -10,7 +10,7 @@ use Rattle.pt_engine.specs.declared.ending.Ending.TheVariants.{DiskFault, NoMemo
 use Rattle.pt_engine.specs.Reading.{Reads}
 use Rattle.pt_engine.specs.Answers.{AreFirst, after_one, answer_to, after_all, answers}
 use Rattle.pt_engine.specs.Kept.{HoldsIn, KeepsInOrder, StandsAfter, StandsKeeping, StandsSaying}
-use Rattle.pt_engine.specs.Session.{IsSession, IsWithin}
+use Rattle.pt_engine.specs.Session.{IsOpen, IsSession, IsWithin}
 
 -- nothing is entered, and nothing taken
 pub record EntersNothing (old new : World) : Type 0 where
@@ -21,6 +21,24 @@ pub record EntersNothing (old new : World) : Type 0 where
 pub record IsRead (piece : List ℕ) : Type 0 where
   pub reading : Option Stmt
   pub reads : Reads piece reading
+
+-- One statement was executed: this is its answer, and the session has the database after it.
+pub record Executes (number : ℕ) (reading : Option Stmt) (before after : Session) (text : List ℕ) : Type 0 where
+  pub text_is : text ≡ answer_to before.db number reading
+  pub after_is : after.db ≡ after_one before.db reading
+  pub open_still : IsOpen after
+
+-- what it left, by its end
+abbrev pub Leaves : {T : Type 0} → Session → World → World → Result T Ending → Type 0
+Leaves after old new (Ok x) = IsSession after new
+Leaves after old new (Err NoMemory) = new ≡ old
+Leaves after old new (Err DiskFault) = Unit {0}
+Leaves after old new (Err _) = ⊥
+
+-- At each moment each image holds the database before it or the one after it.
+pub record KeepsStatement {T : Type 0} (reading : Option Stmt) (db : Db) (after : Session) (old new : World) (result : Result T Ending) : Type 0 where
+  pub moments : IsQuiet old new (λ files. HoldsIn files db ⊎ HoldsIn files (after_one db reading))
+  pub left : Leaves after old new result
 
 -- Of a statement: nothing is entered or taken, and at each moment it is kept or not, and a part of its answer said only
 -- where it is kept.
@@ -33,6 +51,7 @@ pub record AnswersOne (tells : Type 0) (number : ℕ) (piece : List ℕ) (before
   pub reading : Option Stmt
   pub reads : Reads piece reading
   pub after_is : after.db ≡ after_one before.db reading
+  pub open_still : IsOpen after
   pub keeps : tells → KeepsOne number reading before.db old new
   pub said : tells → new.now.said ≡ old.now.said ++ answer_to before.db number reading
   pub session : tells → IsSession after new
@@ -51,13 +70,6 @@ pub record StopsOne (ending : Ending) (number : ℕ) (piece : List ℕ) (db : Db
   pub reads : Reads piece reading
   pub keeps : KeepsOne number reading db old new
   pub stands : StandsOne ending number reading db old new
-
--- why it is
-abbrev pub StopsFor : Ending → ℕ → ℕ → ℕ → ℕ → Type 0
-StopsFor NoMemory disk disk_now output output_now = Unit {0}
-StopsFor DiskFault disk disk_now output output_now = Rose disk disk_now
-StopsFor OutputFault disk disk_now output output_now = Rose output output_now
-StopsFor _ disk disk_now output output_now = ⊥
 
 -- Of the statements so many were answered, and their answers said whole and nothing else.
 pub record AnswersFirst (tells : Type 0) (db : Db) (statements : List (List ℕ)) (count : ℕ) (session : Session) (old new : World) : Type 0 where

@@ -1,7 +1,7 @@
 -- A session: the store of a directory, and the database that it holds.
-use Rattle.std.specs.Prelude.{◌≡◌, ◌⊎◌, ℕ, ◌≤◌, List, ◌++◌, IsTrue}
+use Rattle.std.specs.Prelude.{◌≡◌, ◌⊎◌, ℕ, List, ◌++◌, IsTrue}
 use Rattle.pt_host.specs.Disk.{Files, shown}
-use Rattle.pt_host.specs.World.{World, Rose}
+use Rattle.pt_host.specs.World.{World}
 use Rattle.pt_store.specs.Left.{whole_name}
 use Rattle.pt_store.specs.Store.{is_live, IsStore}
 use Rattle.pt_flat.specs.declared.data.Db.{Db}
@@ -28,17 +28,13 @@ pub record IsOpened (old new : World) (session : Session) : Type 0 where
   pub held : HoldsIn (shown old.now.fs) session.db
   pub stands : IsSession session new
 
--- Why a session isn't opened.
-abbrev pub StopsOpening : Ending → ℕ → ℕ → Type 0
-StopsOpening NoMemory before now = now ≡ before
-StopsOpening DiskFault before now = (before ≤ now) × Rose before now
-StopsOpening (Damaged name place) before now = now ≡ before
-StopsOpening _ before now = ⊥
-
--- Damage is told of `whole.map` at its first byte, and only where the directory held no database before and holds none now.
-abbrev pub IsDamage : Ending → (Db → Type 0) → (Db → Type 0) → Type 0
-IsDamage (Damaged name place) Held Holding = (name ≡ whole_name) × (place ≡ 0) × ((db : Db) → Held db → ⊥) × ((db : Db) → Holding db → ⊥)
-IsDamage _ Held Holding = Unit {0}
+-- Where it isn't opened, and the directory reads so before and then: memory was wanting, the directory failed, or there is
+-- damage, which is told of `whole.map` at its first byte, and only where no database is held, before and then.
+abbrev pub StopsOpening : Ending → (Db → Type 0) → (Db → Type 0) → Type 0
+StopsOpening NoMemory Held Holding = Unit {0}
+StopsOpening DiskFault Held Holding = Unit {0}
+StopsOpening (Damaged name place) Held Holding = (name ≡ whole_name) × (place ≡ 0) × ((db : Db) → Held db → ⊥) × ((db : Db) → Holding db → ⊥)
+StopsOpening _ Held Holding = ⊥
 
 -- Within one statement: the database before it with nothing of its answer said, or the one after it with a part of it said.
 abbrev pub IsWithin : Db → Db → List ℕ → List ℕ → List ℕ → Files → Type 0

@@ -1,13 +1,11 @@
 //! Answering statements one by one: each is read, executed, kept and then answered.
-ghost use Rattle.std.specs.Prelude.{◌≡◌, ◌⊎◌, ◌≤◌, ℕ, false, Err, IfOk, IfErr, OnOk, OnErr, length};
-ghost use Rattle.pt_host.specs.Disk.{EachImage};
-ghost use Rattle.pt_host.specs.World.{IsQuiet, Rose};
+ghost use Rattle.std.specs.Prelude.{◌≡◌, ℕ, false, IfOk, IfErr, OnOk, OnErr, length};
 ghost use Rattle.pt_flat.specs.declared.data.Db.{Db};
 ghost use Rattle.pt_flat.specs.Sound.{IsSound};
 ghost use Rattle.pt_engine.specs.Answers.{after_one, answer_to, IsReply};
-ghost use Rattle.pt_engine.specs.Kept.{HoldsIn};
+ghost use Rattle.pt_engine.specs.Causes.{HasCauses};
 ghost use Rattle.pt_engine.specs.Session.{IsOpen, IsSession};
-ghost use Rattle.pt_engine.specs.Saying.{AnswersOne, AnswersFirst, StopsOne, StopsFirst, StopsFor};
+ghost use Rattle.pt_engine.specs.Saying.{AnswersOne, AnswersFirst, Executes, KeepsStatement, StopsOne, StopsFirst};
 
 use crate::Ending;
 use crate::reader::read;
@@ -27,10 +25,7 @@ pub(crate) fn answer_all<H: Host>(
     requires stands { H.tells → IsSession session.old (H.world host.old) }
     ensures ok { OnOk result (AnswersFirst H.tells session.old.db statements.now (length statements.now) session.new (H.world host.old) (H.world host.new)) }
     ensures err { IfErr result (λ ending. H.tells → StopsFirst ending session.old.db statements.now (H.world host.old) (H.world host.new)) }
-    ensures causes { IfErr result (λ ending. StopsFor ending (H.disk_faults host.old) (H.disk_faults host.new) (H.out_faults host.old) (H.out_faults host.new)) }
-    ensures disk { H.disk_faults host.old ≤ H.disk_faults host.new }
-    ensures output { H.out_faults host.old ≤ H.out_faults host.new }
-    ensures input { H.in_faults host.new ≡ H.in_faults host.old }
+    ensures counts { HasCauses (H.counts host.old) (H.counts host.new) result }
 {
     for (i, piece) in statements.iter().enumerate() {
         answer_one(alloc, host, session, i as u64 + 1, piece.items())?;
@@ -49,13 +44,8 @@ fn answer_one<H: Host>(
     requires open { IsOpen session.old }
     requires stands { H.tells → IsSession session.old (H.world host.old) }
     ensures ok { OnOk result (AnswersOne H.tells number piece.now session.old session.new (H.world host.old) (H.world host.new)) }
-    ensures open { OnOk result (IsOpen session.new) }
     ensures err { IfErr result (λ ending. H.tells → StopsOne ending number piece.now session.old.db (H.world host.old) (H.world host.new)) }
-    ensures causes { IfErr result (λ ending. StopsFor ending (H.disk_faults host.old) (H.disk_faults host.new) (H.out_faults host.old) (H.out_faults host.new)) }
-    ensures disk { H.disk_faults host.old ≤ H.disk_faults host.new }
-    ensures output { H.out_faults host.old ≤ H.out_faults host.new }
-    ensures kept { OnOk result ((H.disk_faults host.new ≡ H.disk_faults host.old) × (H.out_faults host.new ≡ H.out_faults host.old)) }
-    ensures input { H.in_faults host.new ≡ H.in_faults host.old }
+    ensures counts { HasCauses (H.counts host.old) (H.counts host.new) result }
 {
     let reading = read(piece);
     let reply = execute(alloc, host, session, number, &reading)?;
@@ -75,14 +65,9 @@ fn execute<H: Host>(
 ) -> Result<Reply, Ending>
     requires open { IsOpen session.old }
     requires stands { H.tells → IsSession session.old (H.world host.old) }
-    ensures reply { IfOk result (λ reply. reply.text ≡ answer_to session.old.db number reading.now) }
-    ensures after { OnOk result ((session.new.db ≡ after_one session.old.db reading.now) × IsOpen session.new) }
-    ensures stands { OnOk result (H.tells → IsSession session.new (H.world host.new)) }
-    ensures moments { H.tells → IsQuiet (H.world host.old) (H.world host.new) (λ directory. HoldsIn directory session.old.db ⊎ HoldsIn directory (after_one session.old.db reading.now)) }
-    ensures memory { result ≡ Err Ending.NoMemory → H.tells → H.world host.new ≡ H.world host.old }
-    ensures causes { IfErr result (λ ending. ((ending ≡ Ending.NoMemory) × (H.disk_faults host.new ≡ H.disk_faults host.old)) ⊎ ((ending ≡ Ending.DiskFault) × (H.disk_faults host.old ≤ H.disk_faults host.new) × Rose (H.disk_faults host.old) (H.disk_faults host.new))) }
-    ensures kept { OnOk result (H.disk_faults host.new ≡ H.disk_faults host.old) }
-    ensures others { (H.in_faults host.new ≡ H.in_faults host.old) × (H.out_faults host.new ≡ H.out_faults host.old) }
+    ensures ok { IfOk result (λ reply. Executes number reading.now session.old session.new reply.text) }
+    ensures told { H.tells → KeepsStatement reading.now session.old.db session.new (H.world host.old) (H.world host.new) result }
+    ensures counts { HasCauses (H.counts host.old) (H.counts host.new) result }
 {
     let reply = reply_for(alloc, &mut session.db, number, reading)?;
     if !changes(reading, &reply) {

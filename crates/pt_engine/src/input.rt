@@ -1,6 +1,6 @@
-ghost use Rattle.std.specs.Prelude.{◌≡◌, ◌⊎◌, ◌≤◌, IfOk, IfErr, OnErr};
-ghost use Rattle.pt_host.specs.World.{Rose};
-ghost use Rattle.pt_engine.specs.Input.{TakesOnly, TakesScript};
+ghost use Rattle.std.specs.Prelude.{IfOk, IfErr};
+ghost use Rattle.pt_engine.specs.Causes.{HasCauses};
+ghost use Rattle.pt_engine.specs.Input.{StopsTaking, TakesScript};
 
 use crate::Ending;
 use crate::script::Script;
@@ -21,11 +21,8 @@ pub(crate) struct Taken {
 /// Takes the input to its end, or to the first byte that passes a limit.
 pub(crate) fn take_script<H: Host>(alloc: Global, host: &mut H) -> Result<Taken, Ending>
     ensures ok { IfOk result (λ taken. H.tells → TakesScript (H.world host.old) (H.world host.new) taken) }
-    ensures err { OnErr result (H.tells → TakesOnly (H.world host.old) (H.world host.new)) }
-    ensures input { IfErr result (λ ending. (ending ≡ Ending.NoMemory) ⊎ ((ending ≡ Ending.InputFault) × Rose (H.in_faults host.old) (H.in_faults host.new))) }
-    ensures later { H.in_faults host.old ≤ H.in_faults host.new }
-    ensures disk { H.disk_faults host.new ≡ H.disk_faults host.old }
-    ensures output { H.out_faults host.new ≡ H.out_faults host.old }
+    ensures err { IfErr result (λ ending. H.tells → StopsTaking ending (H.world host.old) (H.world host.new)) }
+    ensures counts { HasCauses (H.counts host.old) (H.counts host.new) result }
 {
     let mut script = Script::new(alloc);
     let mut chunk = [0u8; 4096];

@@ -3,12 +3,11 @@ ghost use Rattle.std.specs.Option.{option_copied};
 ghost use Rattle.std.specs.String.{string_bytes};
 ghost use Rattle.pt_host.specs.Disk.{IsAtRest, shown};
 ghost use Rattle.pt_flat.specs.declared.data.Db.{Db};
-ghost use Rattle.pt_engine.specs.Causes.{counts_of, NeverFall, IsCaused, NoneRose};
+ghost use Rattle.pt_engine.specs.Causes.{IsCaused, NoneRose};
 ghost use Rattle.pt_engine.specs.Script.{has_excess, statements};
 ghost use Rattle.pt_engine.specs.Kept.{HoldsIn, KeepsInOrder};
 ghost use Rattle.pt_engine.specs.Session.{IsOpen, IsSession};
-ghost use Rattle.pt_engine.specs.Saying.{EntersNothing};
-ghost use Rattle.pt_engine.specs.Run.{dir_of, EndsTaken, IsComplete, StandsAt, StandsTaken, TellsDamage};
+ghost use Rattle.pt_engine.specs.Run.{dir_of, AnswersTaken, IsComplete, IsRun, StandsAt, TellsDamage};
 
 use crate::Ending;
 use crate::answers::answer_all;
@@ -28,11 +27,10 @@ pub fn run<H: Host>(alloc: Global, words: &Vec<String>, host: &mut H) -> Ending
     ensures usage { (result ≡ Ending.Usage) ↔ (dir_of (map string_bytes words.now.items) ≡ None) }
     ensures untouched { result ≡ Ending.Usage → host.new ≡ host.old }
 
-    // The causes of the other endings.
-    ensures counts { NeverFall (counts_of H.disk_faults H.in_faults H.out_faults host.old) (counts_of H.disk_faults H.in_faults H.out_faults host.new) }
-    ensures causes { IsCaused (counts_of H.disk_faults H.in_faults H.out_faults host.old) (counts_of H.disk_faults H.in_faults H.out_faults host.new) result }
+    // The causes of the other endings: a fault's only where that count rose, and no other count changes.
+    ensures causes { IsCaused (H.counts host.old) (H.counts host.new) result }
     ensures damage { result ≢ Ending.Usage → H.tells → TellsDamage result (H.world host.old) (H.world host.new) }
-    ensures complete { (db : Db) → result ≢ Ending.Usage → H.tells → HoldsIn (shown (H.world host.old).now.fs) db → NoneRose (counts_of H.disk_faults H.in_faults H.out_faults host.old) (counts_of H.disk_faults H.in_faults H.out_faults host.new) → IsComplete (has_excess (H.world host.old).input) result }
+    ensures complete { (db : Db) → result ≢ Ending.Usage → H.tells → HoldsIn (shown (H.world host.old).now.fs) db → NoneRose (H.counts host.old) (H.counts host.new) → IsComplete (has_excess (H.world host.old).input) result }
 
     // The directory that is entered.
     ensures dir { H.tells → ((H.world host.new).dir ≡ None) ⊎ ((H.world host.new).dir ≡ dir_of (map string_bytes words.now.items)) }
@@ -55,12 +53,9 @@ fn run_in<H: Host>(alloc: Global, dir: &str, host: &mut H) -> Ending
     requires new { H.tells → (H.world host.old).dir ≡ None }
     requires at_rest { H.tells → IsAtRest (H.world host.old).now.fs }
     ensures formed { result ≢ Ending.Usage }
-    ensures counts { NeverFall (counts_of H.disk_faults H.in_faults H.out_faults host.old) (counts_of H.disk_faults H.in_faults H.out_faults host.new) }
-    ensures causes { IsCaused (counts_of H.disk_faults H.in_faults H.out_faults host.old) (counts_of H.disk_faults H.in_faults H.out_faults host.new) result }
-    ensures damage { H.tells → TellsDamage result (H.world host.old) (H.world host.new) }
+    ensures causes { IsCaused (H.counts host.old) (H.counts host.new) result }
     ensures dir { H.tells → ((H.world host.new).dir ≡ None) ⊎ ((H.world host.new).dir ≡ Some dir.now) }
-    ensures headline { (db : Db) → H.tells → HoldsIn (shown (H.world host.old).now.fs) db → KeepsInOrder db (statements (H.world host.old).input) (H.world host.old) (H.world host.new) }
-    ensures stands { (db : Db) → H.tells → HoldsIn (shown (H.world host.old).now.fs) db → StandsAt db result (H.world host.old) (H.world host.new) }
+    ensures told { H.tells → IsRun result (H.world host.old) (H.world host.new) }
 {
     match host.enter(dir) {
         Err(_) => Ending::DiskFault,
@@ -73,12 +68,9 @@ fn run_entered<H: Host>(alloc: Global, host: &mut H) -> Ending
     requires entered { H.tells → IsSome (H.world host.old).dir }
     requires at_rest { H.tells → IsAtRest (H.world host.old).now.fs }
     ensures formed { result ≢ Ending.Usage }
-    ensures counts { NeverFall (counts_of H.disk_faults H.in_faults H.out_faults host.old) (counts_of H.disk_faults H.in_faults H.out_faults host.new) }
-    ensures causes { IsCaused (counts_of H.disk_faults H.in_faults H.out_faults host.old) (counts_of H.disk_faults H.in_faults H.out_faults host.new) result }
-    ensures damage { H.tells → TellsDamage result (H.world host.old) (H.world host.new) }
+    ensures causes { IsCaused (H.counts host.old) (H.counts host.new) result }
     ensures dir { H.tells → (H.world host.new).dir ≡ (H.world host.old).dir }
-    ensures headline { (db : Db) → H.tells → HoldsIn (shown (H.world host.old).now.fs) db → KeepsInOrder db (statements (H.world host.old).input) (H.world host.old) (H.world host.new) }
-    ensures stands { (db : Db) → H.tells → HoldsIn (shown (H.world host.old).now.fs) db → StandsAt db result (H.world host.old) (H.world host.new) }
+    ensures told { H.tells → IsRun result (H.world host.old) (H.world host.new) }
 {
     let mut session = match Session::begin(alloc, host) {
         Ok(session) => session,
@@ -99,12 +91,9 @@ fn answer_taken<H: Host>(
 ) -> Ending
     requires open { IsOpen session.old }
     requires stands { H.tells → IsSession session.old (H.world host.old) }
-    ensures counts { NeverFall (counts_of H.disk_faults H.in_faults H.out_faults host.old) (counts_of H.disk_faults H.in_faults H.out_faults host.new) }
-    ensures causes { IsCaused (counts_of H.disk_faults H.in_faults H.out_faults host.old) (counts_of H.disk_faults H.in_faults H.out_faults host.new) result }
-    ensures ending { EndsTaken result taken.now.too_long }
-    ensures only { H.tells → EntersNothing (H.world host.old) (H.world host.new) }
-    ensures in_order { H.tells → KeepsInOrder session.old.db taken.now.statements (H.world host.old) (H.world host.new) }
-    ensures stands { H.tells → StandsTaken result session.old.db taken.now.statements (H.world host.old).now.said (H.world host.new) }
+    ensures causes { IsCaused (H.counts host.old) (H.counts host.new) result }
+    ensures formed { result ≢ Ending.Usage }
+    ensures told { H.tells → AnswersTaken result session.old.db taken.now (H.world host.old) (H.world host.new) }
 {
     match answer_all(alloc, host, session, taken.statements.items()) {
         Err(ending) => ending,

@@ -2,10 +2,11 @@
 ghost use Rattle.std.specs.Prelude.{◌≡◌, ◌⊎◌, ◌≤◌, ◌<◌, ℕ, List as Listed, length, IfOk, IfErr, IfSome, IfNone, OnOk, Err, Some, IsSome, IsTrue, slice_get, ⊤};
 ghost use Rattle.pt_host.specs.Disk.{IsAtRest, EachImage, shown};
 ghost use Rattle.pt_host.specs.Listed.{AreRising};
-ghost use Rattle.pt_host.specs.World.{IsQuiet, Rose};
+ghost use Rattle.pt_host.specs.World.{IsQuiet};
+ghost use Rattle.pt_engine.specs.Causes.{HasCauses};
 ghost use Rattle.pt_store.specs.Left.{IsLeft, whole_name};
 ghost use Rattle.pt_store.specs.Store.{is_live, IsStore, IsStanding, sizes};
-ghost use Rattle.pt_store.specs.Stops.{Counts, IfBad};
+ghost use Rattle.pt_store.specs.Stops.{IsCounted, IfBad};
 ghost use Rattle.pt_flat.specs.declared.data.Db.{Db};
 ghost use Rattle.pt_table_files.specs.Holds.{Holds};
 
@@ -26,7 +27,8 @@ pub(crate) struct Session {
 
 impl Session {
     ghost use Rattle.pt_engine.specs.Kept.{HoldsIn};
-    ghost use Rattle.pt_engine.specs.Session.{IsOpen, IsSession, IsOpened, IsDamage, StopsOpening};
+    ghost use Rattle.pt_engine.specs.Session.{IsOpen, IsSession, IsOpened, StopsOpening};
+    ghost use Rattle.pt_engine.specs.Saying.{Leaves};
 
     /// Opens the directory that was entered.
     pub(crate) fn begin<H: Host>(alloc: Global, host: &mut H) -> Result<Session, Ending>
@@ -36,11 +38,8 @@ impl Session {
         ensures opened { IfOk result (λ session. H.tells → IsOpened (H.world host.old) (H.world host.new) session) }
         ensures left { H.tells → (files : Listed (Listed ℕ × Listed ℕ)) → EachImage (H.world host.old).now.fs (IsLeft files) → IsQuiet (H.world host.old) (H.world host.new) (IsLeft files) }
         ensures quiet { H.tells → IsQuiet (H.world host.old) (H.world host.new) (λ directory. ⊤) }
-        ensures damage { IfErr result (λ ending. H.tells → IsDamage ending (HoldsIn (shown (H.world host.old).now.fs)) (HoldsIn (shown (H.world host.new).now.fs))) }
-        ensures stops { IfErr result (λ ending. StopsOpening ending (H.disk_faults host.old) (H.disk_faults host.new)) }
-        ensures kept { OnOk result (H.disk_faults host.new ≡ H.disk_faults host.old) }
-        ensures input { H.in_faults host.new ≡ H.in_faults host.old }
-        ensures output { H.out_faults host.new ≡ H.out_faults host.old }
+        ensures stops { IfErr result (λ ending. H.tells → StopsOpening ending (HoldsIn (shown (H.world host.old).now.fs)) (HoldsIn (shown (H.world host.new).now.fs))) }
+        ensures counts { HasCauses (H.counts host.old) (H.counts host.new) result }
     {
         let store = Store::attach(alloc, host)?;
         let files = read_all(alloc, &store, host)?;
@@ -56,13 +55,9 @@ impl Session {
         requires stands { H.tells → IsStanding self.old.store (H.world host.old) }
         ensures open { OnOk result (IsOpen self.new) }
         ensures db { self.new.db ≡ self.old.db }
-        ensures stands { OnOk result (H.tells → IsSession self.new (H.world host.new)) }
+        ensures stands { H.tells → Leaves self.new (H.world host.old) (H.world host.new) result }
         ensures left { H.tells → (files : Listed (Listed ℕ × Listed ℕ)) → IsStore self.old.store files (H.world host.old) → IsQuiet (H.world host.old) (H.world host.new) (λ directory. IsLeft files directory ⊎ HoldsIn directory self.old.db) }
-        ensures memory { result ≡ Err Ending.NoMemory → H.tells → H.world host.new ≡ H.world host.old }
-        ensures causes { IfErr result (λ ending. ((ending ≡ Ending.NoMemory) × (H.disk_faults host.new ≡ H.disk_faults host.old)) ⊎ ((ending ≡ Ending.DiskFault) × (H.disk_faults host.old ≤ H.disk_faults host.new) × Rose (H.disk_faults host.old) (H.disk_faults host.new))) }
-        ensures kept { OnOk result (H.disk_faults host.new ≡ H.disk_faults host.old) }
-        ensures input { H.in_faults host.new ≡ H.in_faults host.old }
-        ensures output { H.out_faults host.new ≡ H.out_faults host.old }
+        ensures counts { HasCauses (H.counts host.old) (H.counts host.new) result }
     {
         let files = files_of(alloc, &self.db)?;
         match self.store.replace(alloc, host, &files) {
@@ -82,9 +77,7 @@ fn read_all<H: Host>(alloc: Global, store: &Store, host: &mut H) -> Result<Files
     ensures stands { H.tells → (files : Listed (Listed ℕ × Listed ℕ)) → IsStore store.now files (H.world host.old) → IsStore store.now files (H.world host.new) }
     ensures left { H.tells → (files : Listed (Listed ℕ × Listed ℕ)) → IsStore store.now files (H.world host.old) → IsQuiet (H.world host.old) (H.world host.new) (IsLeft files) }
     ensures bad { IfBad result (λ name place. (name ≡ whole_name) × (place ≡ 0) × (H.tells → ⊥)) }
-    ensures disk { Counts (H.disk_faults host.old) (H.disk_faults host.new) result }
-    ensures input { H.in_faults host.new ≡ H.in_faults host.old }
-    ensures output { H.out_faults host.new ≡ H.out_faults host.old }
+    ensures counts { IsCounted (H.counts host.old) (H.counts host.new) result }
 {
     let mut files = List::new(alloc);
     for i in 0..store.count() {
@@ -108,9 +101,7 @@ fn read_file<H: Host>(
     ensures stands { H.tells → (files : Listed (Listed ℕ × Listed ℕ)) → IsStore store.now files (H.world host.old) → IsStore store.now files (H.world host.new) }
     ensures left { H.tells → (files : Listed (Listed ℕ × Listed ℕ)) → IsStore store.now files (H.world host.old) → IsQuiet (H.world host.old) (H.world host.new) (IsLeft files) }
     ensures bad { IfBad result (λ name place. (name ≡ whole_name) × (place ≡ 0) × (H.tells → ⊥)) }
-    ensures disk { Counts (H.disk_faults host.old) (H.disk_faults host.new) result }
-    ensures input { H.in_faults host.new ≡ H.in_faults host.old }
-    ensures output { H.out_faults host.new ≡ H.out_faults host.old }
+    ensures counts { IsCounted (H.counts host.old) (H.counts host.new) result }
 {
     let name = store.name_at(i).unwrap();
     let bytes = store.read(alloc, host, &name)?;

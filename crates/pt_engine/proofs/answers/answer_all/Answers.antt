@@ -14,8 +14,6 @@ pub loop-i-preserved : goal.loop-i-preserved
 loop-i-preserved g c = record {
   answered = answered_next g.H.Host.tells _ c.args.statements.now c.loop-i.i c.loop-i.session _ _ _ c.items.result.now c.loop-i-test.true (rw c.items.ensures c.index-statements-i.is) c.loop-i.invariant.answered
       c.answer_one.new.session c.in_ok-answer_one.ensures.ok;
-  open_still = c.in_ok-answer_one.ensures.«open»;
-  disk = c.in_ok-answer_one.ensures.kept.0 ∙ c.loop-i.invariant.disk;
-  input = c.in_ok-answer_one.ensures.input ∙ c.loop-i.invariant.input;
-  output = c.in_ok-answer_one.ensures.kept.1 ∙ c.loop-i.invariant.output;
+  open_still = c.in_ok-answer_one.ensures.ok.open_still;
+  counts = c.in_ok-answer_one.ensures.counts ∙ c.loop-i.invariant.counts;
 }

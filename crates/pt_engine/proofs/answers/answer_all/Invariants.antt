@@ -7,7 +7,5 @@ abbrev pub invariant-loop-i : goal.invariant-loop-i
 invariant-loop-i g l = record {
   answered : AnswersFirst g.H.Host.tells l.initial.session.db l.statements l.i l.session (g.H.Host.world l.initial.host) (g.H.Host.world l.host);
   open_still : IsOpen l.session;
-  disk : g.H.Host.disk_faults l.host ≡ g.H.Host.disk_faults l.initial.host;
-  input : g.H.Host.in_faults l.host ≡ g.H.Host.in_faults l.initial.host;
-  output : g.H.Host.out_faults l.host ≡ g.H.Host.out_faults l.initial.host;
+  counts : g.H.Host.counts l.host ≡ g.H.Host.counts l.initial.host;
 }

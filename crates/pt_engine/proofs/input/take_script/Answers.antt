@@ -1,5 +1,5 @@
 use Rattle.std.proofs.Common.{refl, ◌∙◌}
-use Rattle.pt_engine.proofs.InputLemmas.{front_more, front_short}
+use Rattle.pt_engine.proofs.InputLemmas.{front_more, front_short, stopped_within}
 use Rattle.pt_engine.proofs.input.take_script.Goals as goal
 
 pub returns-then-not-branch-clause-ok : goal.returns-then-not-branch-clause-ok
@@ -9,13 +9,16 @@ returns-then-not-branch-clause-ok g c tells =
     (front_short _ _ _ c.loop-count.script c.feed.new.self _ _ _ c.in-Ok.count (c.in-Ok.ensures.bytes tells) refl (c.in-Ok.ensures.ok tells) had
     (rw c.if-not-branch.true at (c.in_ok-feed.ensures.takes had.front had.taken)))
 
+pub returns-in-Err-clause-err : goal.returns-in-Err-clause-err
+returns-in-Err-clause-err g c tells =
+    let had = c.loop-count.invariant.taken tells in
+    rw (c.in-Err.ensures.failed tells) (had.only, stopped_within _ _ c.loop-count.script had)
+
 pub loop-count-preserved : goal.loop-count-preserved
 loop-count-preserved g c = record {
   taken = λ tells.
       let had = c.loop-count.invariant.taken tells in
       front_more _ _ _ c.loop-count.script c.feed.new.self _ _ _ c.in-Ok.count (c.in-Ok.ensures.bytes tells) refl (c.in-Ok.ensures.ok tells) had
       (rw c.if-not-branch.false at (c.in_ok-feed.ensures.takes had.front had.taken));
-  disk = c.in-Ok.ensures.disk ∙ c.loop-count.invariant.disk;
-  input = c.in-Ok.ensures.input.kept ∙ c.loop-count.invariant.input;
-  output = c.in-Ok.ensures.output ∙ c.loop-count.invariant.output;
+  counts = c.in-Ok.ensures.counts.kept ∙ c.loop-count.invariant.counts;
 }

@@ -5,9 +5,7 @@ use Rattle.pt_engine.proofs.input.take_script.Given as goal
 abbrev pub invariant-loop-count : goal.invariant-loop-count
 invariant-loop-count g l = record {
   taken : g.H.Host.tells → TakesFront (g.H.Host.world l.initial.host) (g.H.Host.world l.host) l.script;
-  disk : g.H.Host.disk_faults l.host ≡ g.H.Host.disk_faults l.initial.host;
-  input : g.H.Host.in_faults l.host ≡ g.H.Host.in_faults l.initial.host;
-  output : g.H.Host.out_faults l.host ≡ g.H.Host.out_faults l.initial.host;
+  counts : g.H.Host.counts l.host ≡ g.H.Host.counts l.initial.host;
 }
 
 abbrev pub decreases-loop-count : goal.decreases-loop-count

@@ -18,7 +18,5 @@ loop-i-preserved g c = record {
   stands = λ tells files store. c.in_ok-file.ensures.stands tells files (c.loop-i.invariant.stands tells files store);
   left = λ tells files store.
       quiet_then _ _ _ _ (c.loop-i.invariant.left tells files store) (c.in_ok-file.ensures.left tells files (c.loop-i.invariant.stands tells files store));
-  disk = c.in_ok-file.ensures.disk ∙ c.loop-i.invariant.disk;
-  input = c.in_ok-file.ensures.input ∙ c.loop-i.invariant.input;
-  output = c.in_ok-file.ensures.output ∙ c.loop-i.invariant.output;
+  counts = c.in_ok-file.ensures.counts ∙ c.loop-i.invariant.counts;
 }

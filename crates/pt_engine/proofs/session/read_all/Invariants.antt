@@ -9,7 +9,5 @@ invariant-loop-i g l = record {
   read : g.H.Host.tells → (files : List (List ℕ × List ℕ)) → IsStore l.store files (g.H.Host.world l.initial.host) → l.files ≡ take l.i files;
   stands : g.H.Host.tells → (files : List (List ℕ × List ℕ)) → IsStore l.store files (g.H.Host.world l.initial.host) → IsStore l.store files (g.H.Host.world l.host);
   left : g.H.Host.tells → (files : List (List ℕ × List ℕ)) → IsStore l.store files (g.H.Host.world l.initial.host) → IsQuiet (g.H.Host.world l.initial.host) (g.H.Host.world l.host) (IsLeft files);
-  disk : g.H.Host.disk_faults l.host ≡ g.H.Host.disk_faults l.initial.host;
-  input : g.H.Host.in_faults l.host ≡ g.H.Host.in_faults l.initial.host;
-  output : g.H.Host.out_faults l.host ≡ g.H.Host.out_faults l.initial.host;
+  counts : g.H.Host.counts l.host ≡ g.H.Host.counts l.initial.host;
 }

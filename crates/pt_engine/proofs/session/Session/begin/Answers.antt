@@ -10,8 +10,8 @@ use Rattle.pt_store.specs.declared.store.Store.{Store}
 use Rattle.pt_engine.proofs.OpeningLemmas.{damage_of, opened_left, holds_none, some_held, none_held}
 use Rattle.pt_engine.proofs.session.Session.begin.Goals as goal
 
-pub returns-in_err-store-clause-damage : goal.returns-in_err-store-clause-damage
-returns-in_err-store-clause-damage g c =
+pub returns-in_err-store-clause-stops : goal.returns-in_err-store-clause-stops
+returns-in_err-store-clause-stops g c =
     let p = err_from_is_err_and c.from_residual.result c.from_residual.ensures.1 in
     rw p.1
     (damage_of Store c.in_err-store.field-0.0 p.0 (shown (g.H.Host.world c.args.host.now).now.fs) (shown (g.H.Host.world c.attach.new.host).now.fs) g.H.Host.tells p.2 c.in_err-store.ensures.bad
@@ -32,8 +32,8 @@ returns-in-None-clause-left g c tells files left =
     let s = c.in_ok-store.ensures.stands tells in
     opened_left _ _ _ s.0 files (g.met.H.Host.sound c.args.host.now tells) s.1 left (c.in_ok-store.ensures.left tells files left) (c.in_ok-files.ensures.left tells s.0 s.2)
 
-pub returns-in-None-clause-damage : goal.returns-in-None-clause-damage
-returns-in-None-clause-damage g c tells =
+pub returns-in-None-clause-stops : goal.returns-in-None-clause-stops
+returns-in-None-clause-stops g c tells =
     let s = c.in_ok-store.ensures.stands tells in
     let is = c.in_ok-files.ensures.read tells s.0 s.2 in
     let none = none_held c.in_ok-database_of.field-0 c.in_ok-files.files c.in-None.is c.in_ok-database_of.ensures.none in
