@@ -1,10 +1,11 @@
 //! The session: the store of the directory that was entered, and the database that it holds.
-ghost use Rattle.std.specs.Prelude.{◌≡◌, ◌⊎◌, ◌≤◌, ◌<◌, ℕ, List as Listed, length, IfOk, IfErr, IfSome, IfNone, OnOk, Err, Some, IsSome, IsTrue, slice_get, ⊤};
+ghost use Rattle.std.specs.Prelude.{◌≡◌, ◌⊎◌, ◌≤◌, ◌<◌, ℕ, List as Listed, length, IfOk, IfErr, IfSome, IfNone, OnOk, Err, Some, IsSome, IsTrue, slice_get, None};
 ghost use Rattle.pt_host.specs.Disk.{IsAtRest, EachImage, shown};
 ghost use Rattle.pt_host.specs.Listed.{AreRising};
-ghost use Rattle.pt_host.specs.World.{IsQuiet};
+ghost use Rattle.pt_host.specs.World.{IsQuiet, OnlyLooks};
+ghost use Rattle.pt_host.specs.Replacement.{AsBeforeBut};
 ghost use Rattle.pt_engine.specs.Causes.{HasCauses};
-ghost use Rattle.pt_store.specs.Left.{IsLeft, whole_name};
+ghost use Rattle.pt_store.specs.Left.{IsLeft, shadow_name, whole_name};
 ghost use Rattle.pt_store.specs.Store.{is_live, IsStore, IsStanding, sizes};
 ghost use Rattle.pt_store.specs.Stops.{IsCounted, IfBad};
 ghost use Rattle.pt_flat.specs.declared.data.Db.{Db};
@@ -37,7 +38,8 @@ impl Session {
         ensures open { IfOk result (λ session. IsOpen session) }
         ensures opened { IfOk result (λ session. H.tells → IsOpened (H.world host.old) (H.world host.new) session) }
         ensures left { H.tells → (files : Listed (Listed ℕ × Listed ℕ)) → EachImage (H.world host.old).now.fs (IsLeft files) → IsQuiet (H.world host.old) (H.world host.new) (IsLeft files) }
-        ensures quiet { H.tells → IsQuiet (H.world host.old) (H.world host.new) (λ directory. ⊤) }
+        ensures quiet { H.tells → IsQuiet (H.world host.old) (H.world host.new) (AsBeforeBut (H.world host.old).now.fs shadow_name) }
+        ensures looks { H.tells → shown (H.world host.old).now.fs shadow_name ≡ None → OnlyLooks (H.world host.old) (H.world host.new) }
         ensures stops { IfErr result (λ ending. H.tells → StopsOpening ending (HoldsIn (shown (H.world host.old).now.fs)) (HoldsIn (shown (H.world host.new).now.fs))) }
         ensures counts { HasCauses (H.counts host.old) (H.counts host.new) result }
     {
@@ -74,8 +76,7 @@ fn read_all<H: Host>(alloc: Global, store: &Store, host: &mut H) -> Result<Files
     requires live { IsTrue (is_live store.now) }
     requires stands { H.tells → IsStanding store.now (H.world host.old) }
     ensures read { IfOk result (λ all. H.tells → (files : Listed (Listed ℕ × Listed ℕ)) → IsStore store.now files (H.world host.old) → all ≡ files) }
-    ensures stands { H.tells → (files : Listed (Listed ℕ × Listed ℕ)) → IsStore store.now files (H.world host.old) → IsStore store.now files (H.world host.new) }
-    ensures left { H.tells → (files : Listed (Listed ℕ × Listed ℕ)) → IsStore store.now files (H.world host.old) → IsQuiet (H.world host.old) (H.world host.new) (IsLeft files) }
+    ensures looks { H.tells → OnlyLooks (H.world host.old) (H.world host.new) }
     ensures bad { IfBad result (λ name place. (name ≡ whole_name) × (place ≡ 0) × (H.tells → ⊥)) }
     ensures counts { IsCounted (H.counts host.old) (H.counts host.new) result }
 {
@@ -98,8 +99,7 @@ fn read_file<H: Host>(
     requires within { i < length (sizes store.now) }
     requires stands { H.tells → IsStanding store.now (H.world host.old) }
     ensures read { IfOk result (λ file. H.tells → (files : Listed (Listed ℕ × Listed ℕ)) → IsStore store.now files (H.world host.old) → slice_get files i ≡ Some file) }
-    ensures stands { H.tells → (files : Listed (Listed ℕ × Listed ℕ)) → IsStore store.now files (H.world host.old) → IsStore store.now files (H.world host.new) }
-    ensures left { H.tells → (files : Listed (Listed ℕ × Listed ℕ)) → IsStore store.now files (H.world host.old) → IsQuiet (H.world host.old) (H.world host.new) (IsLeft files) }
+    ensures looks { H.tells → OnlyLooks (H.world host.old) (H.world host.new) }
     ensures bad { IfBad result (λ name place. (name ≡ whole_name) × (place ≡ 0) × (H.tells → ⊥)) }
     ensures counts { IsCounted (H.counts host.old) (H.counts host.new) result }
 {

@@ -3,7 +3,7 @@ use Rattle.std.proofs.Common.{◌≡◌, ◌⊎◌, ℕ, List, [], ◌∷◌, �
 use Rattle.std.specs.Prelude.{Result, Ok, Err}
 use Rattle.std.proofs.lemmas.List.Elements.{All-nil, All-append, All-weaker, All-cons}
 use Rattle.pt_host.specs.Disk.{Fs, Files, IsImage, EachImage}
-use Rattle.pt_host.specs.World.{World, Moment, next, after_look, after_say, Since, IsQuiet}
+use Rattle.pt_host.specs.World.{World, Moment, next, after_look, after_say, Since, IsQuiet, IsUntouched, OnlyLooks}
 use Rattle.pt_host.specs.Images.{Follows}
 
 -- # The moments that a run added
@@ -73,6 +73,56 @@ idle_then a b c P run same = subst (λ (w : World). IsQuiet a w P) (sym same) ru
 pub look_quiet : (old new : World) (name : List ℕ) (P : Files → Type 0) → new ≡ after_look name old → EachImage old.now.fs P → IsQuiet old new P
 look_quiet old new name P same each =
     quiet_call old new (record { fs = old.now.fs; said = old.now.said; looks = old.now.looks ++ name ∷ []; syncs = old.now.syncs; bytes = old.now.bytes }) P same refl each
+
+-- # Runs that only look
+
+untouched : (m : Moment) → IsUntouched m m
+untouched m = record { fs = refl; syncs = refl; bytes = refl }
+
+untouched_then : (a b c : Moment) → IsUntouched a b → IsUntouched b c → IsUntouched a c
+untouched_then a b c first then = record { fs = then.fs ∙ first.fs; syncs = then.syncs ∙ first.syncs; bytes = then.bytes ∙ first.bytes }
+
+pub looks_none : (w : World) → OnlyLooks w w
+looks_none w = record { dir = refl; input = refl; said = refl; now = untouched w.now; since = since_none w _ }
+
+pub looks_same : (old new : World) → new ≡ old → OnlyLooks old new
+looks_same old new same = subst (λ w. OnlyLooks old w) (sym same) (looks_none old)
+
+pub looks_at : (old new : World) (name : List ℕ) → new ≡ after_look name old → OnlyLooks old new
+looks_at old new name same = subst (λ w. OnlyLooks old w) (sym same)
+    (record {
+      dir = refl;
+      input = refl;
+      said = refl;
+      now = record { fs = refl; syncs = refl; bytes = refl };
+      since = since_next old (record { fs = old.now.fs; said = old.now.said; looks = old.now.looks ++ name ∷ []; syncs = old.now.syncs; bytes = old.now.bytes })
+          (λ m. (m.said ≡ old.now.said) × IsUntouched old.now m) (refl, record { fs = refl; syncs = refl; bytes = refl });
+    })
+
+-- a read that failed
+pub looks_perhaps : (old new : World) (name : List ℕ) → (new ≡ old) ⊎ (new ≡ after_look name old) → OnlyLooks old new
+looks_perhaps old new name which = elim which [ inl same ↦ looks_same old new same | inr looked ↦ looks_at old new name looked ]
+
+pub looks_then : (a b c : World) → OnlyLooks a b → OnlyLooks b c → OnlyLooks a c
+looks_then a b c first then = record {
+  dir = then.dir ∙ first.dir;
+  input = then.input ∙ first.input;
+  said = then.said ∙ first.said;
+  now = untouched_then a.now b.now c.now first.now then.now;
+  since = since_then a b c (λ m. (m.said ≡ a.now.said) × IsUntouched a.now m) first.since
+      (since_weaken b c (λ m. (m.said ≡ b.now.said) × IsUntouched b.now m) (λ m. (m.said ≡ a.now.said) × IsUntouched a.now m) (λ m h. (h.0 ∙ first.said, untouched_then a.now b.now m first.now h.1)) then.since);
+}
+
+-- what each image has, each image has still
+pub looks_quiet : (old new : World) (P : Files → Type 0) → EachImage old.now.fs P → OnlyLooks old new → IsQuiet old new P
+looks_quiet old new P each looks = record {
+  dir = looks.dir;
+  input = looks.input;
+  said = looks.said;
+  now = subst (λ (fs : Fs). EachImage fs P) (sym looks.now.fs) each;
+  since = since_weaken old new (λ m. (m.said ≡ old.now.said) × IsUntouched old.now m) (λ m. (m.said ≡ old.now.said) × EachImage m.fs P)
+      (λ m h. (h.0, subst (λ (fs : Fs). EachImage fs P) (sym h.1.fs) each)) looks.since;
+}
 
 -- # Steps from the images of before
 

@@ -102,3 +102,17 @@ pub record IsQuiet (old new : World) (P : Files → Type 0) : Type 0 where
   pub said : new.now.said ≡ old.now.said
   pub now : EachImage new.now.fs P
   pub since : Since old new (λ m. (m.said ≡ old.now.said) × EachImage m.fs P)
+
+-- The disk is as it was, and nothing more was synced or written. (Files may have been looked at.)
+pub record IsUntouched (before m : Moment) : Type 0 where
+  pub fs : m.fs ≡ before.fs
+  pub syncs : m.syncs ≡ before.syncs
+  pub bytes : m.bytes ≡ before.bytes
+
+-- A run that only looks: it enters, takes and says nothing, and the disk is untouched, at each moment that it added and now.
+pub record OnlyLooks (old new : World) : Type 0 where
+  pub dir : new.dir ≡ old.dir
+  pub input : new.input ≡ old.input
+  pub said : new.now.said ≡ old.now.said
+  pub now : IsUntouched old.now new.now
+  pub since : Since old new (λ m. (m.said ≡ old.now.said) × IsUntouched old.now m)

@@ -6,18 +6,18 @@ use Rattle.std.specs.Ordering.{nat_cmp}
 use Rattle.std.proofs.lemmas.List.Elements.{All-from_recursion}
 use Rattle.std.proofs.lemmas.Map.Keys.{sorted_head, sorted_tail}
 use Rattle.pt_host.specs.Disk.{Fs, Files, IsImage, EachImage, IsAtRest, IsSound, shown}
-use Rattle.pt_host.specs.World.{World, IsQuiet}
+use Rattle.pt_host.specs.World.{World, IsQuiet, OnlyLooks}
 use Rattle.pt_host.specs.Images.{IsHeld, OnlyAt}
 use Rattle.pt_host.specs.Listed.{AreRising}
 use Rattle.pt_host.specs.Replacement.{AsBeforeBut, Replaces, IsBeforeOrAfter, IsClear}
 use Rattle.pt_host.proofs.Held.{held_image, held_shown}
-use Rattle.pt_host.proofs.Runs.{follows_each, image_then}
+use Rattle.pt_host.proofs.Runs.{follows_each, follows_weaken, image_then, quiet_weaken}
 use Rattle.pt_host.proofs.Shown.{shown_has, at_rest_images}
 use Rattle.pt_store.specs.declared.entry.Entry.{Entry}
 use Rattle.pt_store.specs.declared.store.Store.{Store}
 use Rattle.pt_store.specs.Spelling.{SpellsFiles}
 use Rattle.pt_store.specs.Entries.{AreEntries, HasEntries, IsMeaningless, bytes_of}
-use Rattle.pt_store.specs.Left.{whole_name, shadow_name, serials_name, placed, with_serials, SpelledIn, StandsFor, Left, IsLeft, IsEither}
+use Rattle.pt_store.specs.Left.{whole_name, shadow_name, serials_name, placed, with_serials, SpelledIn, StandsFor, Left, IsLeft, IsEither, OnlyOwn, AsBeforeButOwn}
 use Rattle.pt_store.specs.Store.{IsStore}
 use Rattle.std.specs.Prelude.{Err}
 use Rattle.pt_store.specs.declared.stop.Stop.{Stop}
@@ -84,6 +84,10 @@ store_kept old new store files same dir is = record {
   here = subst (λ (fs : Fs). AreEntries (bytes_of (shown fs whole_name)) store.entries files) (sym same) is.here;
 }
 
+-- nor does a run that only looks
+pub looks_kept : (old new : World) (store : Store) (files : List (List ℕ × List ℕ)) → OnlyLooks old new → IsStore store files old → IsStore store files new
+looks_kept old new store files looks = store_kept old new store files looks.now.fs looks.dir
+
 -- # A map is replaced
 
 serials_is : (name : List ℕ) (o : Ordering) → slice_cmp nat_cmp name serials_name ≡ o → name ≡ serials_name → o ≡ Equal
@@ -133,6 +137,10 @@ module _ (old new : World) (bytes : List ℕ) (files : List (List ℕ × List �
     settled = settled;
     here = subst (λ whole. AreEntries (bytes_of whole) entries files) (sym (held_shown new.now.fs whole_name bytes sound held)) are;
   }
+
+-- no other file than the store's own two has changed
+pub own_alone : (old new : World) (bytes : List ℕ) → IsQuiet old new (IsBeforeOrAfter old.now.fs whole_name shadow_name bytes) → IsQuiet old new (AsBeforeButOwn old.now.fs)
+own_alone old new bytes = quiet_weaken old new _ _ (follows_weaken old.now.fs (Replaces whole_name shadow_name bytes) OnlyOwn (λ x y step. step.others))
 
 -- # Why a call stopped
 

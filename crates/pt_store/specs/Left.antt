@@ -1,10 +1,11 @@
 -- What a directory stands for: the map that `whole.map` spells, with a `serials.cnt` in it.
-use Rattle.std.specs.Prelude.{◌≡◌, ◌⊎◌, ℕ, List, [], ◌∷◌, Option, Some, None}
+use Rattle.std.specs.Prelude.{◌≡◌, ◌≢◌, ◌⊎◌, ℕ, List, [], ◌∷◌, Option, Some, None}
 use Rattle.std.specs.declared.cmp.Ordering.{Ordering}
 use Rattle.std.specs.declared.cmp.Ordering.TheVariants.{Less, Equal, Greater}
 use Rattle.std.specs.Cmp.Lexicographic.{slice_cmp}
 use Rattle.std.specs.Ordering.{nat_cmp}
-use Rattle.pt_host.specs.Disk.{Files}
+use Rattle.pt_host.specs.Disk.{Fs, Files}
+use Rattle.pt_host.specs.Images.{Follows}
 use Rattle.pt_store.specs.Spelling.{Spells}
 
 -- `whole.map`
@@ -52,3 +53,11 @@ IsLeft map files = Left files map
 -- the directory stands for one of these two
 abbrev pub IsEither : List (List ℕ × List ℕ) → List (List ℕ × List ℕ) → Files → Type 0
 IsEither old new files = Left files old ⊎ Left files new
+
+-- Two directories differ at the store's own two files alone.
+abbrev pub OnlyOwn : Files → Files → Type 0
+OnlyOwn before after = (query : List ℕ) → query ≢ whole_name → query ≢ shadow_name → after query ≡ before query
+
+-- an image of before, but for these two
+abbrev pub AsBeforeButOwn : Fs → Files → Type 0
+AsBeforeButOwn fs after = Follows fs OnlyOwn after

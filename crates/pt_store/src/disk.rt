@@ -1,8 +1,8 @@
 //! The file that the map stands in, as it is read, and a shadow of it that was left.
-ghost use Rattle.std.specs.Prelude.{◌≡◌, ◌+◌, ◌≤◌, [], length, take, drop, IfOk, OnOk, IsSome, IsSomeAnd};
+ghost use Rattle.std.specs.Prelude.{◌≡◌, ◌+◌, ◌≤◌, [], length, take, drop, IfOk, OnOk, IsSome, IsSomeAnd, None};
 ghost use Rattle.std.specs.Option.{option_map};
-ghost use Rattle.pt_host.specs.Disk.{IsImage, shown};
-ghost use Rattle.pt_host.specs.World.{IsQuiet};
+ghost use Rattle.pt_host.specs.Disk.{shown};
+ghost use Rattle.pt_host.specs.World.{IsQuiet, OnlyLooks};
 ghost use Rattle.pt_host.specs.Counts.{DiskCall};
 ghost use Rattle.pt_host.specs.Images.{IsHeld};
 ghost use Rattle.pt_host.specs.Replacement.{AsBeforeBut, IsBeforeOrAfter, IsClear, IsReady};
@@ -23,6 +23,7 @@ pub(crate) fn clear_shadow<H: Host>(host: &mut H) -> Result<(), HostFail>
     requires settled { H.tells → (H.world host.old).now.fs.pending ≡ [] }
     ensures clear { OnOk result (H.tells → IsClear (H.world host.new).now.fs shadow_name) }
     ensures quiet { H.tells → IsQuiet (H.world host.old) (H.world host.new) (AsBeforeBut (H.world host.old).now.fs shadow_name) }
+    ensures idle { H.tells → shown (H.world host.old).now.fs shadow_name ≡ None → H.world host.new ≡ H.world host.old }
     ensures counts { DiskCall (H.counts host.old) (H.counts host.new) result }
 {
     let shadow = names::shadow();
@@ -37,8 +38,7 @@ pub(crate) fn clear_shadow<H: Host>(host: &mut H) -> Result<(), HostFail>
 pub(crate) fn read_entries<H: Host>(alloc: Global, host: &mut H) -> Result<List<Entry>, Stop>
     requires { H.tells → IsSome (H.world host.old).dir }
     ensures found { IfOk result (λ entries. H.tells → HasEntries (shown (H.world host.old).now.fs whole_name) entries) }
-    ensures same { H.tells → (H.world host.new).now.fs ≡ (H.world host.old).now.fs }
-    ensures quiet { H.tells → IsQuiet (H.world host.old) (H.world host.new) (IsImage (H.world host.old).now.fs) }
+    ensures looks { H.tells → OnlyLooks (H.world host.old) (H.world host.new) }
     ensures bad { IfBad result (λ name place. (name ≡ whole_name) × (place ≡ 0) × (H.tells → IsMeaningless (shown (H.world host.old).now.fs whole_name))) }
     ensures counts { IsCounted (H.counts host.old) (H.counts host.new) result }
 {
@@ -58,8 +58,7 @@ pub(crate) fn read_entries<H: Host>(alloc: Global, host: &mut H) -> Result<List<
 fn read_whole<H: Host>(alloc: Global, host: &mut H) -> Result<Option<Vec<u8>>, Stop>
     requires { H.tells → IsSome (H.world host.old).dir }
     ensures bytes { IfOk result (λ found. H.tells → shown (H.world host.old).now.fs whole_name ≡ option_map (λ v. v.items) found) }
-    ensures same { H.tells → (H.world host.new).now.fs ≡ (H.world host.old).now.fs }
-    ensures quiet { H.tells → IsQuiet (H.world host.old) (H.world host.new) (IsImage (H.world host.old).now.fs) }
+    ensures looks { H.tells → OnlyLooks (H.world host.old) (H.world host.new) }
     ensures bad { IfBad result (λ name place. (name ≡ whole_name) × (place ≡ 0) × (H.tells → ⊥)) }
     ensures counts { IsCounted (H.counts host.old) (H.counts host.new) result }
 {
@@ -79,8 +78,7 @@ pub(crate) fn read_range<H: Host>(
 ) -> Result<Vec<u8>, Stop>
     requires { H.tells → IsSomeAnd (shown (H.world host.old).now.fs whole_name) (λ file. place + count ≤ length file) }
     ensures bytes { IfOk result (λ v. H.tells → IsSomeAnd (shown (H.world host.old).now.fs whole_name) (λ file. v.items ≡ take count (drop place file))) }
-    ensures same { H.tells → (H.world host.new).now.fs ≡ (H.world host.old).now.fs }
-    ensures quiet { H.tells → IsQuiet (H.world host.old) (H.world host.new) (IsImage (H.world host.old).now.fs) }
+    ensures looks { H.tells → OnlyLooks (H.world host.old) (H.world host.new) }
     ensures bad { IfBad result (λ name place. (name ≡ whole_name) × (place ≡ 0) × (H.tells → ⊥)) }
     ensures counts { IsCounted (H.counts host.old) (H.counts host.new) result }
 {

@@ -1,10 +1,10 @@
-ghost use Rattle.std.specs.Prelude.{◌≡◌, ℕ, false, List as Listed, length, map, Some, IfOk, OnOk, IsSome, IsTrue, Contains, slice_get};
+ghost use Rattle.std.specs.Prelude.{◌≡◌, ℕ, false, List as Listed, length, map, Some, None, IfOk, OnOk, IsSome, IsTrue, Contains, slice_get};
 ghost use Rattle.std.specs.Option.{option_map};
 ghost use Rattle.pt_host.specs.Disk.{EachImage, IsAtRest, shown};
 ghost use Rattle.pt_host.specs.Listed.{AreRising, by_name};
-ghost use Rattle.pt_host.specs.World.{World, IsQuiet};
+ghost use Rattle.pt_host.specs.World.{World, IsQuiet, OnlyLooks};
 ghost use Rattle.pt_host.specs.Replacement.{AsBeforeBut};
-ghost use Rattle.pt_store.specs.Left.{whole_name, shadow_name, serials_name, Left, IsLeft, IsEither};
+ghost use Rattle.pt_store.specs.Left.{whole_name, shadow_name, serials_name, Left, IsLeft, IsEither, AsBeforeButOwn};
 ghost use Rattle.pt_store.specs.Stops.{IsCounted, IfBad, OnFault, OnNoMemory};
 ghost use Rattle.pt_store.specs.Entries.{length_in};
 ghost use Rattle.pt_store.specs.Store.{IsStore, IsStanding, is_live, sizes, sizes_of};
@@ -41,6 +41,8 @@ impl Store {
         ensures left { H.tells → (files : Listed (Listed ℕ × Listed ℕ)) → EachImage (H.world host.old).now.fs (IsLeft files) → IsQuiet (H.world host.old) (H.world host.new) (IsLeft files) }
         // At every moment, also where the directory stands for no map, no other file than the shadow has changed.
         ensures quiet { H.tells → IsQuiet (H.world host.old) (H.world host.new) (AsBeforeBut (H.world host.old).now.fs shadow_name) }
+        // Where no shadow was left it only looks.
+        ensures looks { H.tells → shown (H.world host.old).now.fs shadow_name ≡ None → OnlyLooks (H.world host.old) (H.world host.new) }
         ensures bad { IfBad result (λ name place. (name ≡ whole_name) × (place ≡ 0) × (H.tells → (files : Listed (Listed ℕ × Listed ℕ)) → Left (shown (H.world host.old).now.fs) files → ⊥)) }
         ensures live { IfOk result (λ store. IsTrue (is_live store)) }
         ensures serials { IfOk result (λ store. IsSome (length_in (sizes store) serials_name)) }
@@ -92,10 +94,8 @@ impl Store {
         requires held { IsSome (length_in (sizes self.now) name.now) }
         requires stands { H.tells → IsStanding self.now (H.world host.old) }
         ensures bytes { IfOk result (λ v. H.tells → (files : Listed (Listed ℕ × Listed ℕ)) → IsStore self.now files (H.world host.old) → by_name files name.now ≡ Some v.items) }
-        // It stands for the map still.
-        ensures stands { H.tells → (files : Listed (Listed ℕ × Listed ℕ)) → IsStore self.now files (H.world host.old) → IsStore self.now files (H.world host.new) }
-        // At every moment, whatever is answered, the directory stands for it.
-        ensures left { H.tells → (files : Listed (Listed ℕ × Listed ℕ)) → IsStore self.now files (H.world host.old) → IsQuiet (H.world host.old) (H.world host.new) (IsLeft files) }
+        // It touches no file, so the store stands for its map still.
+        ensures looks { H.tells → OnlyLooks (H.world host.old) (H.world host.new) }
         ensures bad { IfBad result (λ name place. (name ≡ whole_name) × (place ≡ 0) × (H.tells → ⊥)) }
         ensures counts { IsCounted (H.counts host.old) (H.counts host.new) result }
     {
@@ -122,6 +122,8 @@ impl Store {
         ensures stands { OnOk result (H.tells → IsStore self.new files.now (H.world host.new)) }
         // At every moment, whatever is answered, the directory stands for the old map or the new one.
         ensures left { H.tells → (old : Listed (Listed ℕ × Listed ℕ)) → IsStore self.old old (H.world host.old) → IsQuiet (H.world host.old) (H.world host.new) (IsEither old files.now) }
+        // At every moment no other file than its own two has changed.
+        ensures others { H.tells → IsQuiet (H.world host.old) (H.world host.new) (AsBeforeButOwn (H.world host.old).now.fs) }
         ensures sizes { OnOk result (sizes self.new ≡ sizes_of files.now) }
         ensures live { OnOk result (IsTrue (is_live self.new)) }
         ensures memory { OnNoMemory result ((self.new ≡ self.old) × (H.tells → H.world host.new ≡ H.world host.old)) }

@@ -1,6 +1,6 @@
 use Rattle.std.proofs.Common.{◌≡◌, List, ℕ}
 use Rattle.std.proofs.lemmas.Result.{err_from_is_err_and}
-use Rattle.pt_host.proofs.Runs.{image_then}
+use Rattle.pt_host.proofs.Runs.{image_then, looks_quiet, looks_same, looks_then}
 use Rattle.pt_host.specs.Disk.{shown}
 use Rattle.pt_store.specs.declared.entry.Entry.{Entry}
 use Rattle.pt_store.specs.declared.store.Store.{Store}
@@ -14,7 +14,7 @@ returns-in_err-clear_shadow-clause-left g c = λ tells files left. but_left _ _ 
 
 pub returns-in_err-entries-clause-left : goal.returns-in_err-entries-clause-left
 returns-in_err-entries-clause-left g c = λ tells files left.
-    image_then _ _ _ _ (but_left _ _ files left (c.in_ok-clear_shadow.ensures.quiet tells)) (c.in_err-entries.ensures.quiet tells)
+    image_then _ _ _ _ (but_left _ _ files left (c.in_ok-clear_shadow.ensures.quiet tells)) (looks_quiet _ _ _ (λ files image. image) (c.in_err-entries.ensures.looks tells))
 
 pub returns-in_err-entries-clause-bad : goal.returns-in_err-entries-clause-bad
 returns-in_err-entries-clause-bad g c =
@@ -28,23 +28,35 @@ returns-in_err-entries-clause-bad g c =
 
 pub returns-in_err-add_serials-clause-left : goal.returns-in_err-add_serials-clause-left
 returns-in_err-add_serials-clause-left g c = λ tells files left.
-    image_then _ _ _ _ (but_left _ _ files left (c.in_ok-clear_shadow.ensures.quiet tells)) (c.in_ok-entries.ensures.quiet tells)
+    image_then _ _ _ _ (but_left _ _ files left (c.in_ok-clear_shadow.ensures.quiet tells)) (looks_quiet _ _ _ (λ files image. image) (c.in_ok-entries.ensures.looks tells))
 
 pub returns-clause-stands : goal.returns-clause-stands
 returns-clause-stands g c = λ tells.
     attached _ _ _ (g.met.H.Host.sound c.clear_shadow.new.host tells) (c.requires.rest tells) (c.in_ok-clear_shadow.ensures.quiet tells)
-    _ _ (c.in_ok-clear_shadow.ensures.clear tells) (c.in_ok-entries.ensures.same tells) (c.in_ok-entries.ensures.quiet tells) (c.requires.entered tells)
+    _ _ (c.in_ok-clear_shadow.ensures.clear tells) ((c.in_ok-entries.ensures.looks tells).now.fs) (looks_quiet _ _ _ (λ files image. image) (c.in_ok-entries.ensures.looks tells)) (c.requires.entered tells)
     (c.in_ok-entries.ensures.found tells) c.in_ok-add_serials.ensures.files
 
 pub returns-clause-left : goal.returns-clause-left
 returns-clause-left g c = λ tells files left.
-    image_then _ _ _ _ (but_left _ _ files left (c.in_ok-clear_shadow.ensures.quiet tells)) (c.in_ok-entries.ensures.quiet tells)
+    image_then _ _ _ _ (but_left _ _ files left (c.in_ok-clear_shadow.ensures.quiet tells)) (looks_quiet _ _ _ (λ files image. image) (c.in_ok-entries.ensures.looks tells))
 
 pub returns-in_err-entries-clause-quiet : goal.returns-in_err-entries-clause-quiet
-returns-in_err-entries-clause-quiet g c = λ tells. image_then _ _ _ _ (c.in_ok-clear_shadow.ensures.quiet tells) (c.in_err-entries.ensures.quiet tells)
+returns-in_err-entries-clause-quiet g c = λ tells. image_then _ _ _ _ (c.in_ok-clear_shadow.ensures.quiet tells) (looks_quiet _ _ _ (λ files image. image) (c.in_err-entries.ensures.looks tells))
 
 pub returns-in_err-add_serials-clause-quiet : goal.returns-in_err-add_serials-clause-quiet
-returns-in_err-add_serials-clause-quiet g c = λ tells. image_then _ _ _ _ (c.in_ok-clear_shadow.ensures.quiet tells) (c.in_ok-entries.ensures.quiet tells)
+returns-in_err-add_serials-clause-quiet g c = λ tells. image_then _ _ _ _ (c.in_ok-clear_shadow.ensures.quiet tells) (looks_quiet _ _ _ (λ files image. image) (c.in_ok-entries.ensures.looks tells))
 
 pub returns-clause-quiet : goal.returns-clause-quiet
-returns-clause-quiet g c = λ tells. image_then _ _ _ _ (c.in_ok-clear_shadow.ensures.quiet tells) (c.in_ok-entries.ensures.quiet tells)
+returns-clause-quiet g c = λ tells. image_then _ _ _ _ (c.in_ok-clear_shadow.ensures.quiet tells) (looks_quiet _ _ _ (λ files image. image) (c.in_ok-entries.ensures.looks tells))
+
+pub returns-in_err-clear_shadow-clause-looks : goal.returns-in_err-clear_shadow-clause-looks
+returns-in_err-clear_shadow-clause-looks g c = λ tells none. looks_same _ _ (c.in_err-clear_shadow.ensures.idle tells none)
+
+pub returns-in_err-entries-clause-looks : goal.returns-in_err-entries-clause-looks
+returns-in_err-entries-clause-looks g c = λ tells none. looks_then _ _ _ (looks_same _ _ (c.in_ok-clear_shadow.ensures.idle tells none)) (c.in_err-entries.ensures.looks tells)
+
+pub returns-in_err-add_serials-clause-looks : goal.returns-in_err-add_serials-clause-looks
+returns-in_err-add_serials-clause-looks g c = λ tells none. looks_then _ _ _ (looks_same _ _ (c.in_ok-clear_shadow.ensures.idle tells none)) (c.in_ok-entries.ensures.looks tells)
+
+pub returns-clause-looks : goal.returns-clause-looks
+returns-clause-looks g c = λ tells none. looks_then _ _ _ (looks_same _ _ (c.in_ok-clear_shadow.ensures.idle tells none)) (c.in_ok-entries.ensures.looks tells)

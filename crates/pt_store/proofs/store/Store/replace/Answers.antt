@@ -1,5 +1,8 @@
+use Rattle.std.proofs.Common.{refl}
+use Rattle.pt_host.proofs.Runs.{follows_none}
+use Rattle.pt_store.specs.Left.{OnlyOwn}
 use Rattle.pt_store.proofs.Kept.{entry_sizes}
-use Rattle.pt_store.proofs.Moments.{spelled_stands, either_left, replaced}
+use Rattle.pt_store.proofs.Moments.{spelled_stands, either_left, own_alone, replaced}
 use Rattle.pt_store.proofs.store.Store.replace.Goals as goal
 
 pub returns-in_err-replace_whole-clause-left : goal.returns-in_err-replace_whole-clause-left
@@ -24,3 +27,12 @@ returns-clause-left g c = λ tells old store.
 
 pub returns-clause-sizes : goal.returns-clause-sizes
 returns-clause-sizes g c = entry_sizes _ _ _ (rw c.items.ensures at c.in_ok-bytes.ensures.entries)
+
+pub returns-in_err-bytes-clause-others : goal.returns-in_err-bytes-clause-others
+returns-in_err-bytes-clause-others g c = λ tells. follows_none _ OnlyOwn (λ files query own shadow. refl)
+
+pub returns-in_err-replace_whole-clause-others : goal.returns-in_err-replace_whole-clause-others
+returns-in_err-replace_whole-clause-others g c = λ tells. own_alone _ _ c.as_slice.result.now (c.in_err-replace_whole.ensures.quiet tells)
+
+pub returns-clause-others : goal.returns-clause-others
+returns-clause-others g c = λ tells. own_alone _ _ c.as_slice.result.now (c.in_ok-replace_whole.ensures.quiet tells)
