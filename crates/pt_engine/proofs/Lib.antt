@@ -14,3 +14,4 @@ pub mod SayingLemmas
 pub mod OpeningLemmas
 pub mod RunLemmas
 pub mod EmptyDirectory
+pub mod Unchanged

@@ -5,9 +5,10 @@ use Rattle.std.proofs.Common.{◌≡◌, ◌⊎◌, inl, inr, ℕ, Bool, true, f
 use Rattle.std.proofs.lemmas.List.{append-nil}
 use Rattle.std.proofs.lemmas.List.Elements.{All-nil}
 use Rattle.pt_host.specs.Disk.{Fs, Files, EachImage, IsAtRest, shown}
-use Rattle.pt_host.specs.World.{World, Since, IsQuiet, after_enter}
+use Rattle.pt_host.specs.World.{World, Since, IsQuiet, IsIdle, after_enter}
+use Rattle.pt_host.specs.Replacement.{AsBeforeBut}
 use Rattle.pt_host.proofs.Runs.{since_then, since_weaken, quiet_weaken}
-use Rattle.pt_store.specs.Left.{IsLeft}
+use Rattle.pt_store.specs.Left.{IsLeft, shadow_name}
 use Rattle.pt_store.proofs.Moments.{at_rest_left}
 use Rattle.pt_store.proofs.Once.{left_once}
 use Rattle.pt_flat.specs.declared.data.Db.{Db}
@@ -16,7 +17,7 @@ use Rattle.pt_table_files.proofs.OneDatabase.{holds_one}
 use Rattle.pt_host.specs.Listed.{by_name}
 use Rattle.pt_host.specs.Counts.{Counts}
 use Rattle.pt_engine.specs.Causes.{IsCaused, NoneRose}
-use Rattle.pt_engine.specs.Answers.{AreFirst, HoldsAfter}
+use Rattle.pt_engine.specs.Answers.{AreFirst, ChangesNothing, HoldsAfter}
 use Rattle.pt_engine.specs.Kept.{HoldsIn, IsInOrder, KeepsInOrder, StandsAfter, StandsKeeping}
 use Rattle.pt_engine.specs.Script.{has_excess, statements}
 use Rattle.pt_engine.specs.Session.{StopsOpening}
@@ -49,7 +50,7 @@ entered_damage ending dir old w new is tells = go ending (subst (λ (u : World).
     go Usage h = h
     go DiskFault h = h
     go NoMemory h = h
-    go (Damaged name place) h = h
+    go (Damaged name place) h = (h.0, h.1, h.2, h.3, h.4, record { added = h.5.added; grows = h.5.grows; each = h.5.each })
     go InputFault h = h
     go OutputFault h = h
     go TooLong h = h
@@ -64,6 +65,12 @@ entered_stands db (Damaged name place) dir old new formed h = h
 entered_stands db InputFault dir old new formed h = h
 entered_stands db OutputFault dir old new formed h = h
 
+entered_idle : (dir : List ℕ) (old new : World) → IsIdle (after_enter dir old) new → IsIdle old new
+entered_idle dir old new idle = record {
+  now = record { fs = idle.now.fs; syncs = idle.now.syncs; bytes = idle.now.bytes };
+  since = record { added = idle.since.added; grows = idle.since.grows; each = idle.since.each };
+}
+
 pub entered_run : (ending : Ending) (dir : List ℕ) (old w new : World) → w ≡ after_enter dir old → (ending ≡ Usage → ⊥) → IsRun ending w new → IsRun ending old new
 entered_run ending dir old w new is formed run =
     let entered = subst (λ (u : World). IsRun ending u new) is run in
@@ -71,6 +78,7 @@ entered_run ending dir old w new is formed run =
       damage = entered_damage ending dir old (after_enter dir old) new refl entered.damage;
       headline = λ db held. entered_in_order db dir old (after_enter dir old) new refl (entered.headline db) held;
       stands = λ db held. entered_stands db ending dir old new formed (entered.stands db held);
+      idle = λ db held none changes. entered_idle dir old new (entered.idle db held none changes);
     }
 
 -- # No statement was answered yet
@@ -125,15 +133,15 @@ stands_opening db OutputFault files later old new stops held said holds = absurd
 stands_opening db TooLong files later old new stops held said holds = absurd stops
 
 -- what is told of damage where it stopped
-pub tells_opening : (ending : Ending) (old new : World) → new.now.said ≡ old.now.said → StopsOpening ending (HoldsIn (shown old.now.fs)) (HoldsIn (shown new.now.fs)) → TellsDamage ending old new
-tells_opening NoMemory old new said stops = tt
-tells_opening DiskFault old new said stops = tt
-tells_opening (Damaged name place) old new said stops = (stops.0, stops.1, said, stops.2, stops.3)
-tells_opening Done old new said stops = absurd stops
-tells_opening Usage old new said stops = absurd stops
-tells_opening InputFault old new said stops = absurd stops
-tells_opening OutputFault old new said stops = absurd stops
-tells_opening TooLong old new said stops = absurd stops
+pub tells_opening : (ending : Ending) (old new : World) → IsQuiet old new (AsBeforeBut old.now.fs shadow_name) → StopsOpening ending (HoldsIn (shown old.now.fs)) (HoldsIn (shown new.now.fs)) → TellsDamage ending old new
+tells_opening NoMemory old new quiet stops = tt
+tells_opening DiskFault old new quiet stops = tt
+tells_opening (Damaged name place) old new quiet stops = (stops.0, stops.1, quiet.said, stops.2, stops.3, since_weaken old new _ _ (λ m h. h.1) quiet.since)
+tells_opening Done old new quiet stops = absurd stops
+tells_opening Usage old new quiet stops = absurd stops
+tells_opening InputFault old new quiet stops = absurd stops
+tells_opening OutputFault old new quiet stops = absurd stops
+tells_opening TooLong old new quiet stops = absurd stops
 
 -- # The statements
 
@@ -192,6 +200,11 @@ stops_only DiskFault w new stops = absurd stops
 stops_only Usage w new stops = absurd stops
 stops_only (Damaged name place) w new stops = absurd stops
 
+-- what is taken leaves the disk untouched
+pub idle_taken : (w v : World) → TakesOnly w v → IsIdle w v
+idle_taken w v only = subst (λ (u : World). IsIdle w u) (sym only)
+    (record { now = record { fs = refl; syncs = refl; bytes = refl }; since = record { added = []; grows = sym (append-nil w.moments); each = All-nil _ } })
+
 -- # The directory is opened, and then the input taken
 
 module _ (db : Db) (old w : World) (rest : IsAtRest old.now.fs) (held : HoldsIn (shown old.now.fs) db) (left : EachImage old.now.fs (IsLeft held.0) → IsQuiet old w (IsLeft held.0)) where
@@ -235,6 +248,9 @@ module _ (db : Db) (old w : World) (rest : IsAtRest old.now.fs) (held : HoldsIn 
 
       pub answered_in_order : (new : World) → KeepsInOrder session pieces v new → KeepsInOrder db (statements old.input) old new
       answered_in_order new then = in_order_then db (statements old.input) old v new taken_said taken_in_order (rw (← same_db, ← same_pieces) then)
+
+      pub answered_idle : (new : World) → (ChangesNothing session pieces → IsIdle v new) → ChangesNothing db (statements old.input) → IsIdle v new
+      answered_idle new idle none = idle (subst (λ d. ChangesNothing d pieces) (sym same_db) (subst (λ ps. ChangesNothing db ps) (sym same_pieces) none))
 
       pub answered_stands : (ending : Ending) (too_long : Bool) (new : World) → StandsTaken ending too_long session pieces v.now.said new → StandsTaken ending too_long db (statements old.input) old.now.said new
       answered_stands ending too_long new stands = rw (← same_db, ← same_pieces, ← taken_said) stands

@@ -2,21 +2,22 @@
 use Rattle.pt_engine.specs.declared.ending.Ending.{Ending}
 use Rattle.pt_engine.specs.declared.ending.Ending.TheVariants.{Done, Usage, DiskFault, NoMemory, Damaged, InputFault, OutputFault, TooLong}
 use Rattle.pt_engine.specs.declared.session.Session.{Session}
-use Rattle.std.proofs.Common.{◌≡◌, inl, inr, ℕ, ◌+◌, ◌<◌, List, [], ◌∷◌, ◌++◌, length, take, get_or, refl, ap, ◌∙◌, sym, arith, append_assoc}
+use Rattle.std.proofs.Common.{◌≡◌, inl, inr, ℕ, false, ◌+◌, ◌<◌, List, [], ◌∷◌, ◌++◌, length, take, get_or, refl, ap, ◌∙◌, sym, arith, append_assoc}
 use Rattle.std.proofs.lemmas.List.{append-nil, take_more}
 use Rattle.std.specs.Prelude.{Option}
 use Rattle.pt_host.specs.Disk.{Files}
 use Rattle.pt_host.specs.World.{World}
-use Rattle.pt_host.proofs.Runs.{since_none, since_then, since_weaken}
+use Rattle.pt_host.proofs.Runs.{since_none, since_then, since_weaken, idle_none, idle_on}
 use Rattle.pt_flat.specs.declared.data.Db.{Db}
 use Rattle.pt_flat.specs.declared.data.Stmt.{Stmt}
 use Rattle.pt_engine.specs.Reading.{Reads}
-use Rattle.pt_engine.specs.Answers.{HoldsAfter, after_one, answer_to, answers}
+use Rattle.pt_engine.specs.Answers.{HoldsAfter, ChangesNothing, after_one, answer_to, answers, changes}
 use Rattle.pt_engine.specs.Kept.{HoldsIn, IsInOrder, KeepsInOrder, StandsAfter}
 use Rattle.pt_engine.specs.Session.{IsSession, IsWithin}
 use Rattle.pt_engine.specs.Saying.{EntersNothing, KeepsOne, AnswersOne, StandsOne, StopsOne, AnswersFirst, StandsFirst, StopsFirst}
 use Rattle.pt_engine.proofs.AnswerLemmas.{says_whole, says_up_to, says_part, holds_push, first_push, answers_more, after_all-append}
 use Rattle.pt_engine.proofs.SessionLemmas.{session_holds}
+use Rattle.pt_engine.proofs.Unchanged.{stays, next_stays}
 
 next_piece : (statements : List (List ℕ)) (count : ℕ) (piece : List ℕ) → count < length statements → piece ≡ get_or statements count piece → take (count + 1) statements ≡ take count statements ++ piece ∷ []
 next_piece statements count piece within is = take_more statements count piece within ∙ ap (λ p. take count statements ++ p ∷ []) (sym is)
@@ -34,6 +35,7 @@ none_answered tells statements session w is = record {
   said = λ told. sym (append-nil w.now.said);
   stands = is;
   in_order = λ told. since_none w _;
+  idle = λ told none. idle_none w;
 }
 
 module _ (tells : Type 0) (db : Db) (statements : List (List ℕ)) (count : ℕ) (session : Session) (old w new : World) (piece : List ℕ)
@@ -68,6 +70,12 @@ module _ (tells : Type 0) (db : Db) (statements : List (List ℕ)) (count : ℕ)
         since_then old w new _ (had.in_order told)
         (since_weaken w new _ _ (λ m each files image. within_one told m.said files (each files image)) keeps.moments)
 
+  -- nor does this one change anything, where none does
+  stays_next : ChangesNothing db statements → (reading : Option Stmt) → Reads piece reading → changes session.db reading ≡ false
+  stays_next none reading reads =
+      let at = next_stays db statements count had.readings had.first none piece reading within next reads in
+      ap (λ d. changes d reading) (had.after ∙ stays db statements count had.readings had.first none) ∙ at
+
   pub answered_next : (after : Session) → AnswersOne tells (count + 1) piece session after w new → AnswersFirst tells db statements (count + 1) after old new
   answered_next after one = record {
     readings = had.readings ++ one.reading ∷ [];
@@ -80,6 +88,7 @@ module _ (tells : Type 0) (db : Db) (statements : List (List ℕ)) (count : ℕ)
         ∙ ap (λ xs. old.now.said ++ xs) (sym (answers_more db statements [] [] count had.readings had.first piece one.reading within next one.reads));
     stands = one.session;
     in_order = λ told. one_in_order one.reading one.reads told (one.keeps told);
+    idle = λ told none. idle_on old w new (had.idle told none) ((one.keeps told).idle (stays_next none one.reading one.reads));
   }
 
   stands_first : (ending : Ending) (reading : Option Stmt) → Reads piece reading → tells → StandsOne ending (count + 1) reading session.db w new → StandsFirst ending db statements old new
@@ -116,6 +125,7 @@ module _ (tells : Type 0) (db : Db) (statements : List (List ℕ)) (count : ℕ)
   stopped_in ending told one = record {
     only = enters_then old w new (had.only told) one.keeps.only;
     in_order = one_in_order one.reading one.reads told one.keeps;
+    idle = λ none. idle_on old w new (had.idle told none) (one.keeps.idle (stays_next none one.reading one.reads));
     stands = stands_first ending one.reading one.reads told one.stands;
   }
 

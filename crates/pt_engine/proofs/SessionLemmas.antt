@@ -1,11 +1,11 @@
 -- What a session stands for, and one statement in it.
-use Rattle.std.proofs.Common.{◌≡◌, ◌⊎◌, inl, inr, ℕ, List, [], ◌++◌, refl, ap, ◌∙◌, sym, subst, append_assoc}
+use Rattle.std.proofs.Common.{◌≡◌, ◌⊎◌, inl, inr, ℕ, false, List, [], ◌++◌, refl, ap, ◌∙◌, sym, subst, append_assoc}
 use Rattle.std.proofs.lemmas.List.{append-nil}
 use Rattle.std.specs.Prelude.{Option, Err}
 use Rattle.pt_flat.specs.declared.data.Reply.{Reply}
 use Rattle.pt_host.specs.Disk.{Fs, Files, EachImage}
-use Rattle.pt_host.specs.World.{World, after_say, FailedSay, Since, IsQuiet}
-use Rattle.pt_host.proofs.Runs.{since_then, since_weaken, since_say, after_say_now, after_say_dir, after_say_input, quiet_none, quiet_weaken}
+use Rattle.pt_host.specs.World.{World, after_say, FailedSay, Since, IsQuiet, IsIdle}
+use Rattle.pt_host.proofs.Runs.{since_then, since_weaken, since_say, after_say_now, after_say_dir, after_say_input, quiet_none, quiet_weaken, idle_none, idle_say}
 use Rattle.pt_store.specs.Left.{IsLeft}
 use Rattle.pt_store.proofs.Moments.{store_kept}
 use Rattle.pt_flat.specs.declared.data.Db.{Db}
@@ -16,7 +16,7 @@ use Rattle.pt_flat.specs.declared.data.Stmt.{Stmt}
 use Rattle.pt_engine.specs.declared.ending.Ending.{Ending}
 use Rattle.pt_engine.specs.declared.ending.Ending.TheVariants.{Done, Usage, DiskFault, NoMemory, Damaged, InputFault, OutputFault, TooLong}
 use Rattle.pt_engine.specs.Reading.{Reads}
-use Rattle.pt_engine.specs.Answers.{after_one, answer_to}
+use Rattle.pt_engine.specs.Answers.{after_one, answer_to, changes}
 use Rattle.pt_engine.specs.Saying.{EntersNothing, AnswersOne, Executes, Leaves, StandsOne, StopsOne}
 
 -- a world in which nothing that a session speaks of has changed
@@ -73,12 +73,16 @@ module _ (db next : Db) (before text : List ℕ) where
   kept_then_said w v u said quiet holds part rest is same =
       since_then w v u _ (quiet_within w v said quiet) (say_within v u (quiet.said ∙ said) holds part rest is same)
 
+-- nothing was done, and then a part of the answer said
+idle_said : (w v u : World) (part : List ℕ) → v ≡ w → u ≡ after_say part v → IsIdle w u
+idle_said w v u part nothing same = idle_say part w u (same ∙ ap (after_say part) nothing)
+
 -- One statement, which has this number and is read so.
 module _ (number : ℕ) (piece : List ℕ) (reading : Option Stmt) (reads : Reads piece reading) where
   -- it is kept, and its answer said
   pub answered_one : (tells : Type 0) (before after : Session) (w v u : World) (text : List ℕ) → Executes number reading before after text
-      → (tells → IsQuiet w v (λ files. HoldsIn files before.db ⊎ HoldsIn files (after_one before.db reading))) → (tells → IsSession after v) → (tells → u ≡ after_say text v) → AnswersOne tells number piece before after w u
-  answered_one tells before after w v u text done quiet session same = record {
+      → (tells → IsQuiet w v (λ files. HoldsIn files before.db ⊎ HoldsIn files (after_one before.db reading))) → (tells → IsSession after v) → (tells → changes before.db reading ≡ false → v ≡ w) → (tells → u ≡ after_say text v) → AnswersOne tells number piece before after w u
+  answered_one tells before after w v u text done quiet session idle same = record {
     reading = reading;
     reads = reads;
     after_is = done.after_is;
@@ -87,6 +91,7 @@ module _ (number : ℕ) (piece : List ℕ) (reading : Option Stmt) (reads : Read
       only = enters_nothing w v u _ text (quiet told) (same told);
       moments = kept_then_said before.db (after_one before.db reading) w.now.said (answer_to before.db number reading) w v u refl (quiet told)
           (λ files image. subst (λ db. HoldsIn files db) done.after_is (session_holds after v (session told) files image)) text [] (sym done.text_is ∙ sym (append-nil text)) (same told);
+      idle = λ none. idle_said w v u text (idle told none) (same told);
     };
     said = λ told. ap (λ x. x.now.said) (same told) ∙ ap (λ m. m.said) (after_say_now text v) ∙ ap (λ xs. xs ++ text) (quiet told).said ∙ ap (λ xs. w.now.said ++ xs) done.text_is;
     session = λ told.
@@ -95,8 +100,8 @@ module _ (number : ℕ) (piece : List ℕ) (reading : Option Stmt) (reads : Read
 
   -- it is kept, and a part of its answer said
   pub stopped_saying : (before after : Session) (w v u : World) (text : List ℕ) → Executes number reading before after text
-      → IsQuiet w v (λ files. HoldsIn files before.db ⊎ HoldsIn files (after_one before.db reading)) → IsSession after v → FailedSay text v u → StopsOne OutputFault number piece before.db w u
-  stopped_saying before after w v u text done quiet session said =
+      → IsQuiet w v (λ files. HoldsIn files before.db ⊎ HoldsIn files (after_one before.db reading)) → IsSession after v → (changes before.db reading ≡ false → v ≡ w) → FailedSay text v u → StopsOne OutputFault number piece before.db w u
+  stopped_saying before after w v u text done quiet session idle said =
       let holds : EachImage v.now.fs (λ files. HoldsIn files (after_one before.db reading)) = λ files image. subst (λ db. HoldsIn files db) done.after_is (session_holds after v session files image) in
       let front = said.0 in
       let rest = said.1 in
@@ -107,6 +112,7 @@ module _ (number : ℕ) (piece : List ℕ) (reading : Option Stmt) (reads : Read
         keeps = record {
           only = enters_nothing w v u _ front quiet said.3;
           moments = kept_then_said before.db (after_one before.db reading) w.now.said (answer_to before.db number reading) w v u refl quiet holds front rest parts said.3;
+          idle = λ none. idle_said w v u front (idle none) said.3;
         };
         stands = (
           (front, rest, parts, ap (λ x. x.now.said) said.3 ∙ ap (λ m. m.said) (after_say_now front v) ∙ ap (λ xs. xs ++ front) quiet.said),
@@ -116,13 +122,14 @@ module _ (number : ℕ) (piece : List ℕ) (reading : Option Stmt) (reads : Read
 
   -- it isn't kept, or that isn't known
   pub stopped_keeping : (ending : Ending) (session after : Session) (w v : World)
-      → IsQuiet w v (λ files. HoldsIn files session.db ⊎ HoldsIn files (after_one session.db reading)) → Leaves {T = Reply} after w v (Err ending) → IsSession session w → StopsOne ending number piece session.db w v
-  stopped_keeping ending session after w v quiet leaves is = record {
+      → IsQuiet w v (λ files. HoldsIn files session.db ⊎ HoldsIn files (after_one session.db reading)) → Leaves {T = Reply} after w v (Err ending) → (changes session.db reading ≡ false → v ≡ w) → IsSession session w → StopsOne ending number piece session.db w v
+  stopped_keeping ending session after w v quiet leaves idle is = record {
     reading = reading;
     reads = reads;
     keeps = record {
       only = record { dir = quiet.dir; input = quiet.input };
       moments = quiet_within session.db (after_one session.db reading) w.now.said (answer_to session.db number reading) w v refl quiet;
+      idle = λ none. subst (λ (u : World). IsIdle w u) (sym (idle none)) (idle_none w);
     };
     stands = stands ending leaves;
   }

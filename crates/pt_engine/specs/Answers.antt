@@ -1,10 +1,11 @@
 -- The answers to the statements of a script, and the database after them.
-use Rattle.std.specs.Prelude.{◌≡◌, ℕ, ◌+◌, ◌-◌, ◌≤◌, List, [], ◌∷◌, ◌++◌, length, take, Option, Some, None}
+use Rattle.std.specs.Prelude.{◌≡◌, ℕ, ◌+◌, ◌-◌, ◌≤◌, List, [], ◌∷◌, ◌++◌, length, take, All, Bool, false, not, Option, Some, None, is_some}
 use Rattle.pt_flat.specs.declared.data.Db.{Db}
 use Rattle.pt_flat.specs.declared.data.Stmt.{Stmt}
+use Rattle.pt_flat.specs.declared.data.Stmt.TheVariants.{Create, Insert, Select}
 use Rattle.pt_flat.specs.declared.data.Reply.{Reply}
 use Rattle.pt_flat.specs.Answer.{syntax}
-use Rattle.pt_flat.specs.Step.{after, reply_to}
+use Rattle.pt_flat.specs.Step.{refusal, after, reply_to}
 use Rattle.pt_engine.specs.Reading.{Reads}
 
 -- what each statement of a list spells
@@ -29,6 +30,13 @@ abbrev pub IsReply : Db → ℕ → Option Stmt → Reply → Type 0
 IsReply db number None reply = reply ≡ syntax number
 IsReply db number (Some stmt) reply = reply ≡ reply_to db stmt
 
+-- A statement that isn't refused, and is no SELECT, changes the database.
+abbrev pub changes : Db → Option Stmt → Bool
+changes db None = false
+changes db (Some (Create table column)) = not (is_some (refusal db (Create table column)))
+changes db (Some (Insert table value)) = not (is_some (refusal db (Insert table value)))
+changes db (Some (Select table)) = false
+
 -- the database after statements, in their order
 abbrev pub after_all : Db → List (Option Stmt) → Db
 after_all db [] = db
@@ -48,6 +56,10 @@ pub record IsPrefix (front whole : List ℕ) : Type 0 where
 pub record AreFirst (statements : List (List ℕ)) (k : ℕ) (readings : List (Option Stmt)) : Type 0 where
   pub within : k ≤ length statements
   pub read : AreRead (take k statements) readings
+
+-- None of the statements changes this database, however many of them are read.
+abbrev pub ChangesNothing : Db → List (List ℕ) → Type 0
+ChangesNothing db statements = (k : ℕ) (readings : List (Option Stmt)) → AreFirst statements k readings → All (λ reading. changes db reading ≡ false) readings
 
 -- What is held, in the sense of Held, is the database after the first k statements of a script that begins with this one.
 pub record HoldsAfter (Held : Db → Type 0) (db : Db) (statements : List (List ℕ)) (k : ℕ) : Type 0 where

@@ -1,12 +1,14 @@
 -- What a run says and leaves, by the words of the command line and what it began with.
 use Rattle.std.specs.Prelude.{◌≡◌, ◌⊎◌, ℕ, Bool, true, false, cond, List, [], ◌∷◌, length, codes, Option, Some, None}
 use Rattle.std.specs.Str.{bytes_eq}
-use Rattle.pt_host.specs.Disk.{shown}
-use Rattle.pt_host.specs.World.{World}
-use Rattle.pt_store.specs.Left.{whole_name}
+use Rattle.pt_host.specs.Disk.{EachImage, shown}
+use Rattle.pt_host.specs.World.{World, Since, IsIdle}
+use Rattle.pt_host.specs.Replacement.{AsBeforeBut}
+use Rattle.pt_store.specs.Left.{shadow_name, whole_name}
 use Rattle.pt_flat.specs.declared.data.Db.{Db}
 use Rattle.pt_engine.specs.declared.ending.Ending.{Ending}
 use Rattle.pt_engine.specs.declared.ending.Ending.TheVariants.{Done, Usage, DiskFault, NoMemory, Damaged, InputFault, OutputFault, TooLong}
+use Rattle.pt_engine.specs.Answers.{ChangesNothing}
 use Rattle.pt_engine.specs.Script.{has_excess, statements}
 use Rattle.pt_engine.specs.declared.input.Taken.{Taken}
 use Rattle.pt_engine.specs.Kept.{HoldsIn, KeepsInOrder, StandsAfter, StandsKeeping, StandsSaying}
@@ -44,11 +46,11 @@ StandsAt db Usage old new = new ≡ old
 StandsAt db (Damaged name place) old new = ⊥
 
 -- Damage is told of `whole.map` at its first byte, with nothing printed, exactly where the directory held no database, and the
--- files as they read then hold none either. But for words of no form only want of memory and a fault of the directory come
+-- files as they read then hold none either; at no moment has another file than a leftover shadow changed. But for words of no form only want of memory and a fault of the directory come
 -- before it.
 abbrev pub TellsDamage : Ending → World → World → Type 0
 TellsDamage (Damaged name place) old new =
-    (name ≡ whole_name) × (place ≡ 0) × (new.now.said ≡ old.now.said) × ((db : Db) → HoldsIn (shown old.now.fs) db → ⊥) × ((db : Db) → HoldsIn (shown new.now.fs) db → ⊥)
+    (name ≡ whole_name) × (place ≡ 0) × (new.now.said ≡ old.now.said) × ((db : Db) → HoldsIn (shown old.now.fs) db → ⊥) × ((db : Db) → HoldsIn (shown new.now.fs) db → ⊥) × Since old new (λ m. EachImage m.fs (AsBeforeBut old.now.fs shadow_name))
 TellsDamage Done old new = (db : Db) × HoldsIn (shown old.now.fs) db
 TellsDamage TooLong old new = (db : Db) × HoldsIn (shown old.now.fs) db
 TellsDamage InputFault old new = (db : Db) × HoldsIn (shown old.now.fs) db
@@ -67,6 +69,7 @@ pub record IsRun (ending : Ending) (old new : World) : Type 0 where
   pub damage : TellsDamage ending old new
   pub headline : (db : Db) → HoldsIn (shown old.now.fs) db → KeepsInOrder db (statements old.input) old new
   pub stands : (db : Db) → HoldsIn (shown old.now.fs) db → StandsAt db ending old new
+  pub idle : (db : Db) → HoldsIn (shown old.now.fs) db → shown old.now.fs shadow_name ≡ None → ChangesNothing db (statements old.input) → IsIdle old new
 
 -- how the answering of what was taken ends, and what then stands of the statements, behind what was said before
 abbrev pub StandsTaken : Ending → Bool → Db → List (List ℕ) → List ℕ → World → Type 0
@@ -81,4 +84,5 @@ StandsTaken _ too_long db statements before new = ⊥
 pub record AnswersTaken (ending : Ending) (db : Db) (taken : Taken) (old new : World) : Type 0 where
   pub only : EntersNothing old new
   pub in_order : KeepsInOrder db taken.statements old new
+  pub idle : ChangesNothing db taken.statements → IsIdle old new
   pub stands : StandsTaken ending taken.too_long db taken.statements old.now.said new

@@ -1,14 +1,14 @@
 -- What is kept and said while statements are answered. (In the shape of the code.)
-use Rattle.std.specs.Prelude.{◌≡◌, ◌⊎◌, ℕ, List, ◌++◌, Option, Result, Ok, Err}
+use Rattle.std.specs.Prelude.{◌≡◌, ◌⊎◌, ℕ, false, List, ◌++◌, Option, Result, Ok, Err}
 use Rattle.pt_host.specs.Disk.{EachImage}
-use Rattle.pt_host.specs.World.{World, Since, IsQuiet}
+use Rattle.pt_host.specs.World.{World, Since, IsQuiet, IsIdle}
 use Rattle.pt_flat.specs.declared.data.Db.{Db}
 use Rattle.pt_flat.specs.declared.data.Stmt.{Stmt}
 use Rattle.pt_engine.specs.declared.session.Session.{Session}
 use Rattle.pt_engine.specs.declared.ending.Ending.{Ending}
 use Rattle.pt_engine.specs.declared.ending.Ending.TheVariants.{DiskFault, NoMemory, OutputFault}
 use Rattle.pt_engine.specs.Reading.{Reads}
-use Rattle.pt_engine.specs.Answers.{AreFirst, after_one, answer_to, after_all, answers}
+use Rattle.pt_engine.specs.Answers.{AreFirst, ChangesNothing, after_one, answer_to, after_all, answers, changes}
 use Rattle.pt_engine.specs.Kept.{HoldsIn, KeepsInOrder, StandsAfter, StandsKeeping, StandsSaying}
 use Rattle.pt_engine.specs.Session.{IsOpen, IsSession, IsWithin}
 
@@ -35,16 +35,18 @@ Leaves after old new (Err NoMemory) = new ≡ old
 Leaves after old new (Err DiskFault) = Unit {0}
 Leaves after old new (Err _) = ⊥
 
--- At each moment each image holds the database before it or the one after it.
+-- At each moment each image holds the database before it or the one after it. Where it changes nothing, nothing is done.
 pub record KeepsStatement {T : Type 0} (reading : Option Stmt) (db : Db) (after : Session) (old new : World) (result : Result T Ending) : Type 0 where
   pub moments : IsQuiet old new (λ files. HoldsIn files db ⊎ HoldsIn files (after_one db reading))
   pub left : Leaves after old new result
+  pub idle : changes db reading ≡ false → new ≡ old
 
 -- Of a statement: nothing is entered or taken, and at each moment it is kept or not, and a part of its answer said only
--- where it is kept.
+-- where it is kept. Where it changes nothing, the disk is untouched.
 pub record KeepsOne (number : ℕ) (reading : Option Stmt) (db : Db) (old new : World) : Type 0 where
   pub only : EntersNothing old new
   pub moments : Since old new (λ m. EachImage m.fs (IsWithin db (after_one db reading) old.now.said (answer_to db number reading) m.said))
+  pub idle : changes db reading ≡ false → IsIdle old new
 
 -- One statement was executed and its database kept, and then its answer said.
 pub record AnswersOne (tells : Type 0) (number : ℕ) (piece : List ℕ) (before after : Session) (old new : World) : Type 0 where
@@ -80,6 +82,7 @@ pub record AnswersFirst (tells : Type 0) (db : Db) (statements : List (List ℕ)
   pub said : tells → new.now.said ≡ old.now.said ++ answers db 1 readings
   pub stands : tells → IsSession session new
   pub in_order : tells → KeepsInOrder db statements old new
+  pub idle : tells → ChangesNothing db statements → IsIdle old new
 
 -- how many of them stand at each ending
 abbrev pub StandsFirst : Ending → Db → List (List ℕ) → World → World → Type 0
@@ -92,4 +95,5 @@ StandsFirst _ db statements old new = ⊥
 pub record StopsFirst (ending : Ending) (db : Db) (statements : List (List ℕ)) (old new : World) : Type 0 where
   pub only : EntersNothing old new
   pub in_order : KeepsInOrder db statements old new
+  pub idle : ChangesNothing db statements → IsIdle old new
   pub stands : StandsFirst ending db statements old new

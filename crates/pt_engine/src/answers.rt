@@ -2,7 +2,7 @@
 ghost use Rattle.std.specs.Prelude.{◌≡◌, ℕ, false, IfOk, IfErr, OnOk, OnErr, length};
 ghost use Rattle.pt_flat.specs.declared.data.Db.{Db};
 ghost use Rattle.pt_flat.specs.Sound.{IsSound};
-ghost use Rattle.pt_engine.specs.Answers.{after_one, answer_to, IsReply};
+ghost use Rattle.pt_engine.specs.Answers.{after_one, answer_to, changes, IsReply};
 ghost use Rattle.pt_engine.specs.Causes.{HasCauses};
 ghost use Rattle.pt_engine.specs.Session.{IsOpen, IsSession};
 ghost use Rattle.pt_engine.specs.Saying.{AnswersOne, AnswersFirst, Executes, KeepsStatement, StopsOne, StopsFirst};
@@ -79,7 +79,7 @@ fn execute<H: Host>(
 
 /// Whether a statement that was answered so has changed the database.
 fn changes(reading: &Option<Stmt>, reply: &Reply) -> bool
-    ensures { result ≡ false → (db : Db) (number : ℕ) → IsReply db number reading.now reply.now → after_one db reading.now ≡ db }
+    ensures { (db : Db) (number : ℕ) → IsReply db number reading.now reply.now → result ≡ changes db reading.now }
 {
     match reading {
         Some(Stmt::Create { .. } | Stmt::Insert { .. }) => reply.code() == 0,

@@ -4,6 +4,9 @@ ghost use Rattle.std.specs.String.{string_bytes};
 ghost use Rattle.pt_host.specs.Disk.{IsAtRest, shown};
 ghost use Rattle.pt_flat.specs.declared.data.Db.{Db};
 ghost use Rattle.pt_engine.specs.Causes.{IsCaused, NoneRose};
+ghost use Rattle.pt_host.specs.World.{IsIdle};
+ghost use Rattle.pt_store.specs.Left.{shadow_name};
+ghost use Rattle.pt_engine.specs.Answers.{ChangesNothing};
 ghost use Rattle.pt_engine.specs.Script.{has_excess, statements};
 ghost use Rattle.pt_engine.specs.Kept.{HoldsIn, KeepsInOrder};
 ghost use Rattle.pt_engine.specs.Session.{IsOpen, IsSession};
@@ -31,6 +34,9 @@ pub fn run<H: Host>(alloc: Global, words: &Vec<String>, host: &mut H) -> Ending
     ensures causes { IsCaused (H.counts host.old) (H.counts host.new) result }
     ensures damage { result ≢ Ending.Usage → H.tells → TellsDamage result (H.world host.old) (H.world host.new) }
     ensures complete { (db : Db) → result ≢ Ending.Usage → H.tells → HoldsIn (shown (H.world host.old).now.fs) db → NoneRose (H.counts host.old) (H.counts host.new) → IsComplete (has_excess (H.world host.old).input) result }
+
+    // A script of statements that change nothing, over a directory without a leftover shadow, writes and syncs nothing.
+    ensures idle { (db : Db) → result ≢ Ending.Usage → H.tells → HoldsIn (shown (H.world host.old).now.fs) db → shown (H.world host.old).now.fs shadow_name ≡ None → ChangesNothing db (statements (H.world host.old).input) → IsIdle (H.world host.old) (H.world host.new) }
 
     // The directory that is entered.
     ensures dir { H.tells → ((H.world host.new).dir ≡ None) ⊎ ((H.world host.new).dir ≡ dir_of (map string_bytes words.now.items)) }

@@ -3,7 +3,7 @@ use Rattle.std.proofs.Common.{◌≡◌, ◌⊎◌, ℕ, List, [], ◌∷◌, �
 use Rattle.std.specs.Prelude.{Result, Ok, Err}
 use Rattle.std.proofs.lemmas.List.Elements.{All-nil, All-append, All-weaker, All-cons}
 use Rattle.pt_host.specs.Disk.{Fs, Files, IsImage, EachImage}
-use Rattle.pt_host.specs.World.{World, Moment, next, after_look, after_say, Since, IsQuiet, IsUntouched, OnlyLooks}
+use Rattle.pt_host.specs.World.{World, Moment, next, after_look, after_say, Since, IsQuiet, IsUntouched, IsIdle, OnlyLooks}
 use Rattle.pt_host.specs.Images.{Follows}
 
 -- # The moments that a run added
@@ -124,6 +124,20 @@ looks_quiet old new P each looks = record {
       (λ m h. (h.0, subst (λ (fs : Fs). EachImage fs P) (sym h.1.fs) each)) looks.since;
 }
 
+-- # Runs that leave the disk untouched
+
+pub idle_none : (w : World) → IsIdle w w
+idle_none w = record { now = untouched w.now; since = since_none w _ }
+
+pub idle_looks : (old new : World) → OnlyLooks old new → IsIdle old new
+idle_looks old new looks = record { now = looks.now; since = since_weaken old new _ (IsUntouched old.now) (λ m h. h.1) looks.since }
+
+pub idle_on : (a b c : World) → IsIdle a b → IsIdle b c → IsIdle a c
+idle_on a b c first then = record {
+  now = untouched_then a.now b.now c.now first.now then.now;
+  since = since_then a b c (IsUntouched a.now) first.since (since_weaken b c (IsUntouched b.now) (IsUntouched a.now) (λ m h. untouched_then a.now b.now m first.now h) then.since);
+}
+
 -- # Steps from the images of before
 
 pub follows_here : (fs : Fs) (R : Files → Files → Type 0) → ((files : Files) → R files files) → EachImage fs (Follows fs R)
@@ -190,3 +204,11 @@ after_say-append (byte ∷ front) rest w = after_say-append front rest (next w (
 pub either_way : {T E P Q R : Type 0} → (r : Result T E) → OnOk r P → OnErr r Q → (P → R) → (Q → R) → R
 either_way (Ok x) p q ok failed = ok p
 either_way (Err x) p q ok failed = failed q
+
+-- what is said leaves the disk untouched
+pub idle_say : (part : List ℕ) (w new : World) → new ≡ after_say part w → IsIdle w new
+idle_say part w new same = subst (λ v. IsIdle w v) (sym same)
+    (record {
+      now = subst (λ m. IsUntouched w.now m) (sym (after_say_now part w)) (record { fs = refl; syncs = refl; bytes = refl });
+      since = since_say part w (IsUntouched w.now) (λ front rest e. record { fs = refl; syncs = refl; bytes = refl });
+    })

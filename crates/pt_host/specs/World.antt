@@ -109,6 +109,11 @@ pub record IsUntouched (before m : Moment) : Type 0 where
   pub syncs : m.syncs ≡ before.syncs
   pub bytes : m.bytes ≡ before.bytes
 
+-- The disk is untouched at each moment that was added and now. (Something may have been taken or said.)
+pub record IsIdle (old new : World) : Type 0 where
+  pub now : IsUntouched old.now new.now
+  pub since : Since old new (IsUntouched old.now)
+
 -- A run that only looks: it enters, takes and says nothing, and the disk is untouched, at each moment that it added and now.
 pub record OnlyLooks (old new : World) : Type 0 where
   pub dir : new.dir ≡ old.dir

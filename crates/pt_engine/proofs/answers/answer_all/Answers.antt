@@ -1,7 +1,14 @@
-use Rattle.std.proofs.Common.{◌∙◌}
+use Rattle.std.proofs.Common.{refl, ◌∙◌}
 use Rattle.std.proofs.lemmas.Result.{err_from_is_err_and}
-use Rattle.pt_engine.proofs.SayingLemmas.{answered_next, stopped_in}
+use Rattle.pt_engine.proofs.SayingLemmas.{answered_next, none_answered, stopped_in}
 use Rattle.pt_engine.proofs.answers.answer_all.Goals as goal
+
+pub loop-i-init : goal.loop-i-init
+loop-i-init g c = record {
+  answered = none_answered g.H.Host.tells c.args.statements.now c.args.session.now (g.H.Host.world c.args.host.now) c.requires.stands;
+  open_still = c.requires.«open»;
+  counts = refl;
+}
 
 pub returns-in_err-answer_one-clause-err : goal.returns-in_err-answer_one-clause-err
 returns-in_err-answer_one-clause-err g c =

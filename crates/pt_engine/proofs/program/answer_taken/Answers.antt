@@ -1,4 +1,6 @@
 use Rattle.std.proofs.Common.{length, subst}
+use Rattle.pt_host.specs.World.{IsIdle}
+use Rattle.pt_engine.specs.Answers.{ChangesNothing}
 use Rattle.pt_engine.specs.Kept.{KeepsInOrder, StandsAfter}
 use Rattle.pt_engine.specs.Run.{StandsTaken}
 use Rattle.pt_engine.proofs.SayingLemmas.{all_answered}
@@ -11,6 +13,7 @@ returns-in-Err-clause-told g c tells =
     record {
       only = first.only;
       in_order = subst (λ pieces. KeepsInOrder c.args.session.now.db pieces (g.H.Host.world c.args.host.now) (g.H.Host.world c.answer_all.new.host)) c.items.ensures first.in_order;
+      idle = subst (λ pieces. ChangesNothing c.args.session.now.db pieces → IsIdle (g.H.Host.world c.args.host.now) (g.H.Host.world c.answer_all.new.host)) c.items.ensures first.idle;
       stands = subst (λ pieces. StandsTaken c.in-Err.ending c.args.taken.now.too_long c.args.session.now.db pieces (g.H.Host.world c.args.host.now).now.said (g.H.Host.world c.answer_all.new.host)) c.items.ensures
           (stands_taken c.in-Err.ending c.args.taken.now.too_long _ c.items.result.now _ _ first.stands);
     }
@@ -21,6 +24,7 @@ returns-in-Ok-clause-told g c tells =
     record {
       only = first.only tells;
       in_order = subst (λ pieces. KeepsInOrder c.args.session.now.db pieces (g.H.Host.world c.args.host.now) (g.H.Host.world c.answer_all.new.host)) c.items.ensures (first.in_order tells);
+      idle = subst (λ pieces. ChangesNothing c.args.session.now.db pieces → IsIdle (g.H.Host.world c.args.host.now) (g.H.Host.world c.answer_all.new.host)) c.items.ensures (first.idle tells);
       stands = (
         c.if-taken.true,
         subst (λ pieces. StandsAfter c.args.session.now.db pieces (g.H.Host.world c.args.host.now).now.said (g.H.Host.world c.answer_all.new.host) (length pieces)) c.items.ensures
@@ -34,6 +38,7 @@ returns-in-Ok-2-clause-told g c tells =
     record {
       only = first.only tells;
       in_order = subst (λ pieces. KeepsInOrder c.args.session.now.db pieces (g.H.Host.world c.args.host.now) (g.H.Host.world c.answer_all.new.host)) c.items.ensures (first.in_order tells);
+      idle = subst (λ pieces. ChangesNothing c.args.session.now.db pieces → IsIdle (g.H.Host.world c.args.host.now) (g.H.Host.world c.answer_all.new.host)) c.items.ensures (first.idle tells);
       stands = (
         c.if-taken.false,
         subst (λ pieces. StandsAfter c.args.session.now.db pieces (g.H.Host.world c.args.host.now).now.said (g.H.Host.world c.answer_all.new.host) (length pieces)) c.items.ensures

@@ -2,18 +2,20 @@ use Rattle.std.proofs.Common.{◌∙◌, ap}
 use Rattle.pt_host.specs.Disk.{shown}
 use Rattle.pt_engine.specs.Script.{has_excess}
 use Rattle.pt_engine.proofs.SessionLemmas.{session_same}
-use Rattle.pt_engine.proofs.RunLemmas.{opened_quiet, quiet_in_order, stands_opening, tells_opening, stops_only, taken_in_order, stands_stopped, tells_stopped, answered_in_order, answered_stands, stands_at, tells_taken}
+use Rattle.pt_engine.proofs.RunLemmas.{opened_quiet, quiet_in_order, stands_opening, tells_opening, stops_only, taken_in_order, stands_stopped, tells_stopped, answered_in_order, answered_stands, answered_idle, idle_taken, stands_at, tells_taken}
+use Rattle.pt_host.proofs.Runs.{idle_looks, idle_on}
 use Rattle.pt_engine.proofs.program.run_entered.Goals as goal
 
 pub returns-in-Err-clause-told : goal.returns-in-Err-clause-told
 returns-in-Err-clause-told g c tells =
     let stops = c.in-Err.ensures.stops tells in
     record {
-      damage = tells_opening c.in-Err.ending _ _ (c.in-Err.ensures.quiet tells).said stops;
+      damage = tells_opening c.in-Err.ending _ _ (c.in-Err.ensures.quiet tells) stops;
       headline = λ db held. quiet_in_order db _ _ _ (opened_quiet db _ _ (c.requires.at_rest tells) held (c.in-Err.ensures.left tells held.0));
       stands = λ db held.
           let quiet = opened_quiet db _ _ (c.requires.at_rest tells) held (c.in-Err.ensures.left tells held.0) in
           stands_opening db c.in-Err.ending (shown (g.H.Host.world c.args.host.now).now.fs) (shown (g.H.Host.world c.begin.new.host).now.fs) _ _ stops held quiet.said quiet.now;
+      idle = λ db held none changes. idle_looks _ _ (c.in-Err.ensures.looks tells none);
     }
 
 pub returns-in-Err-take_script-clause-told : goal.returns-in-Err-take_script-clause-told
@@ -25,6 +27,7 @@ returns-in-Err-take_script-clause-told g c tells =
       damage = tells_stopped ending c.in-Ok.session.db _ _ _ stops (c.in-Ok.ensures.opened tells).held;
       headline = λ db held. taken_in_order db _ _ (c.requires.at_rest tells) held (c.in-Ok.ensures.left tells held.0) _ only;
       stands = λ db held. stands_stopped db _ _ (c.requires.at_rest tells) held (c.in-Ok.ensures.left tells held.0) _ only ending stops;
+      idle = λ db held none changes. idle_on _ _ _ (idle_looks _ _ (c.in-Ok.ensures.looks tells none)) (idle_taken _ _ only);
     }
 
 pub answer_taken-requires-clause-stands : goal.answer_taken-requires-clause-stands
@@ -46,4 +49,7 @@ returns-clause-told g c tells =
           stands_at db ending c.in-Ok-take_script.taken.too_long _ _
           (answered_stands db _ _ (c.requires.at_rest tells) held (c.in-Ok.ensures.left tells held.0) _ taken.only _ _ opened.held taken.statements ending _ _ answered.stands)
           (taken.too_long ∙ ap has_excess quiet.input) (λ short. answered.only.input ∙ taken.to_the_end short);
+      idle = λ db held none changes.
+          idle_on _ _ _ (idle_on _ _ _ (idle_looks _ _ (c.in-Ok.ensures.looks tells none)) (idle_taken _ _ taken.only))
+          (answered_idle db _ _ (c.requires.at_rest tells) held (c.in-Ok.ensures.left tells held.0) _ taken.only _ _ opened.held taken.statements _ answered.idle changes);
     }

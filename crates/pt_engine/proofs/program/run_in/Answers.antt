@@ -1,5 +1,7 @@
 use Rattle.std.proofs.Common.{ap, sym, subst}
 use Rattle.pt_host.specs.Disk.{Fs, EachImage}
+use Rattle.pt_host.specs.World.{IsIdle}
+use Rattle.pt_host.proofs.Runs.{idle_none}
 use Rattle.pt_engine.specs.Kept.{HoldsIn}
 use Rattle.pt_engine.specs.Script.{statements}
 use Rattle.pt_engine.proofs.RunLemmas.{rest_holds, keeping_none, none_in_order, entered_run}
@@ -17,6 +19,7 @@ returns-in-Err-clause-told g c tells =
         keeping_none db (statements now.input) now.now.said _ (ap (λ w. w.now.said) same)
             (subst (λ (fs : Fs). EachImage fs (λ files. HoldsIn files db)) (sym (ap (λ w. w.now.fs) same)) (rest_holds now.now.fs db (c.requires.at_rest tells) held)),
       );
+      idle = λ db held none changes. subst (λ w. IsIdle now w) (sym same) (idle_none now);
     }
 
 pub returns-in-Ok-clause-told : goal.returns-in-Ok-clause-told
