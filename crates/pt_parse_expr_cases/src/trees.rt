@@ -1,5 +1,4 @@
 use crate::leaves::{put_column, put_date, put_hex, put_text};
-use crate::names::{cmp_name, func_name, op_name, sign_name, test_name};
 use pt_ast::{Cond, Expr};
 use std::alloc::AllocError;
 
@@ -9,11 +8,12 @@ use std::alloc::AllocError;
 /// - a text as `'abc'`, where a quote, a backslash and what is no printable ASCII is a backslash with two hexadecimal digits;
 /// - a hexadecimal string as `X'00FF'`;
 /// - a date as `(date N)`, with its day counted from 1970-01-01, or as `(date none)`;
-/// - a negation as `(neg x)`, and a call as `(abs x)`, with the name of the function in lower case;
-/// - a sum as `(sum +x -y)`, each part behind its sign, and a product as `(product x *y /z %w)`, each later part behind its operator.
+/// - a negation as `(neg x)`, and a call as `(Abs x)`, with the name of the function in `Func`;
+/// - a sum as `(sum +x -y)`, each part behind its sign, and a product as `(product x Times y Div z Mod w)`, each later part behind its
+///   operator.
 ///
-/// So `2 - 3 - 4 * -5` is `(sum +2 -3 -(product 4 *(neg 5)))`.
-pub fn put_expr(text: &mut String, expr: &Expr) -> Result<(), AllocError> {
+/// So `2 - 3 - 4 * -5` is `(sum +2 -3 -(product 4 Times (neg 5)))`.
+pub(crate) fn put_expr(text: &mut String, expr: &Expr) -> Result<(), AllocError> {
     match expr {
         Expr::Number(n) => put_number(text, *n),
         Expr::Text(bytes) => put_text(text, bytes.items()),
@@ -29,7 +29,7 @@ pub fn put_expr(text: &mut String, expr: &Expr) -> Result<(), AllocError> {
         Expr::Sum(parts) => {
             text.push_str("(sum")?;
             for (minus, part) in parts.items() {
-                put_word(text, sign_name(*minus))?;
+                put_sign(text, *minus)?;
                 put_expr(text, part)?;
             }
             text.push(')')
@@ -38,70 +38,65 @@ pub fn put_expr(text: &mut String, expr: &Expr) -> Result<(), AllocError> {
             text.push_str("(product ")?;
             put_expr(text, first.get())?;
             for (op, part) in parts.items() {
-                put_word(text, op_name(*op))?;
+                write!(text, " {op:?} ")?;
                 put_expr(text, part)?;
             }
             text.push(')')
         }
         Expr::Call(func, part) => {
-            put_head(text, func_name(*func))?;
+            write!(text, "({func:?} ")?;
             put_expr(text, part.get())?;
             text.push(')')
         }
     }
 }
 
-/// Writes a condition behind a text, so that no two have the same: `(or c d ..)`, `(and c d ..)`, `(not c)`, `(<= x y)`, `(is_null x)`,
-/// `(in x y z ..)` and `(between x low high)`, where the forms with NOT are `not_is_null`, `not_in` and `not_between`.
+/// Writes a condition behind a text, so that no two have the same: `(or c d ..)`, `(and c d ..)`, `(not c)`, `(Le x y)` with the name of the
+/// comparison in `Cmp`, `(is_null x)`, `(in x y z ..)` and `(between x low high)`, where the forms with NOT are `not_is_null`, `not_in`
+/// and `not_between`.
 ///
-/// So `a = 1 OR b = 1 AND c NOT IN (1)` is ``(or (= `a` 1) (and (= `b` 1) (not_in `c` 1)))``.
-pub fn put_cond(text: &mut String, cond: &Cond) -> Result<(), AllocError> {
+/// So `a = 1 OR b = 1 AND c NOT IN (1)` is ``(or (Eq `a` 1) (and (Eq `b` 1) (not_in `c` 1)))``.
+pub(crate) fn put_cond(text: &mut String, cond: &Cond) -> Result<(), AllocError> {
+    put_head(text, cond)?;
     match cond {
-        Cond::Or(parts) => {
-            text.push_str("(or")?;
+        Cond::Or(parts) | Cond::And(parts) => {
             for part in parts.items() {
                 text.push(' ')?;
                 put_cond(text, part)?;
             }
-            text.push(')')
-        }
-        Cond::And(parts) => {
-            text.push_str("(and")?;
-            for part in parts.items() {
-                text.push(' ')?;
-                put_cond(text, part)?;
-            }
-            text.push(')')
         }
         Cond::Not(part) => {
-            text.push_str("(not ")?;
+            text.push(' ')?;
             put_cond(text, part.get())?;
-            text.push(')')
         }
-        Cond::Compare(cmp, x, y) => {
-            put_head(text, cmp_name(*cmp))?;
-            put_expr(text, x)?;
-            put_next(text, y)?;
-            text.push(')')
-        }
-        Cond::IsNull(is_not, x) => {
-            put_test(text, *is_not, "is_null")?;
+        Cond::Compare(_, x, y) => {
             put_next(text, x)?;
-            text.push(')')
+            put_next(text, y)?;
         }
-        Cond::In(is_not, x, list) => {
-            put_test(text, *is_not, "in")?;
+        Cond::IsNull(_, x) => put_next(text, x)?,
+        Cond::In(_, x, list) => {
             put_next(text, x)?;
             put_all(text, list.items())?;
-            text.push(')')
         }
-        Cond::Between(is_not, x, low, high) => {
-            put_test(text, *is_not, "between")?;
+        Cond::Between(_, x, low, high) => {
             put_next(text, x)?;
             put_next(text, low)?;
             put_next(text, high)?;
-            text.push(')')
         }
+    }
+    text.push(')')
+}
+
+/// A parenthesis, and the name of a condition.
+fn put_head(text: &mut String, cond: &Cond) -> Result<(), AllocError> {
+    match cond {
+        Cond::Or(_) => text.push_str("(or"),
+        Cond::And(_) => text.push_str("(and"),
+        Cond::Not(_) => text.push_str("(not"),
+        Cond::Compare(cmp, _, _) => write!(text, "({cmp:?}"),
+        Cond::IsNull(is_not, _) => put_test(text, *is_not, "is_null"),
+        Cond::In(is_not, _, _) => put_test(text, *is_not, "in"),
+        Cond::Between(is_not, _, _, _) => put_test(text, *is_not, "between"),
     }
 }
 
@@ -109,23 +104,16 @@ fn put_number(text: &mut String, n: i128) -> Result<(), AllocError> {
     write!(text, "{n}")
 }
 
-/// A space, and a word.
-fn put_word(text: &mut String, word: &str) -> Result<(), AllocError> {
+/// A space, and the sign of a part of a sum.
+fn put_sign(text: &mut String, minus: bool) -> Result<(), AllocError> {
     text.push(' ')?;
-    text.push_str(word)
-}
-
-/// A parenthesis, a word and a space.
-fn put_head(text: &mut String, word: &str) -> Result<(), AllocError> {
-    text.push('(')?;
-    text.push_str(word)?;
-    text.push(' ')
+    text.push(if minus { '-' } else { '+' })
 }
 
 /// A parenthesis, and the name of a test.
 fn put_test(text: &mut String, is_not: bool, name: &str) -> Result<(), AllocError> {
     text.push('(')?;
-    text.push_str(test_name(is_not))?;
+    text.push_str(if is_not { "not_" } else { "" })?;
     text.push_str(name)
 }
 

@@ -1,5 +1,0 @@
-mod conds;
-mod exprs;
-mod nested;
-mod places;
-mod reserved;

@@ -1,0 +1,89 @@
+use crate::cutting::{Form, fed_text, pieces_text};
+use crate::lexing::tokens_text;
+use percent_encoding::percent_decode;
+use pt_token::{blank_has_no_token, cuts_end, cuts_outside, ends_first, feeds_give_pieces};
+use std::alloc::{AllocError, Global};
+
+/// The answer to a line.
+pub(crate) fn answer(alloc: Global, line: &str) -> Result<String, AllocError> {
+    let (word, rest) = cut_word(line);
+    if word.is_empty() || word.starts_with('#') {
+        return String::from_str(alloc, line);
+    }
+    match word {
+        "tokens" => tokens_answer(alloc, rest),
+        "pieces" => pieces_answer(alloc, rest),
+        "sizes" => sizes_answer(alloc, rest),
+        "long" => long_answer(alloc, rest),
+        "feed" => feed_answer(alloc, rest),
+        "laws" => laws_answer(alloc),
+        _ => unknown(alloc),
+    }
+}
+
+/// A word, and what stands behind the space after it.
+fn cut_word(line: &str) -> (&str, &str) {
+    match line.split_once(' ') {
+        None => (line, ""),
+        Some(parts) => parts,
+    }
+}
+
+fn unknown(alloc: Global) -> Result<String, AllocError> {
+    String::from_str(alloc, "?")
+}
+
+fn tokens_answer(alloc: Global, text: &str) -> Result<String, AllocError> {
+    let piece = spaced(alloc, 0, text)?;
+    tokens_text(alloc, piece.as_slice())
+}
+
+fn pieces_answer(alloc: Global, rest: &str) -> Result<String, AllocError> {
+    let (chunk, text) = cut_word(rest);
+    let script = spaced(alloc, 0, text)?;
+    match chunk.parse::<usize>() {
+        Err(_) => unknown(alloc),
+        Ok(chunk) => pieces_text(alloc, script.as_slice(), chunk, Form::Hex),
+    }
+}
+
+fn sizes_answer(alloc: Global, rest: &str) -> Result<String, AllocError> {
+    let (chunk, behind) = cut_word(rest);
+    let script = script_of(alloc, behind)?;
+    match chunk.parse::<usize>() {
+        Err(_) => unknown(alloc),
+        Ok(chunk) => pieces_text(alloc, script.as_slice(), chunk, Form::Length),
+    }
+}
+
+fn long_answer(alloc: Global, rest: &str) -> Result<String, AllocError> {
+    let script = script_of(alloc, rest)?;
+    pieces_text(alloc, script.as_slice(), script.len(), Form::Length)
+}
+
+fn feed_answer(alloc: Global, rest: &str) -> Result<String, AllocError> {
+    let script = script_of(alloc, rest)?;
+    fed_text(alloc, script.as_slice())
+}
+
+fn laws_answer(alloc: Global) -> Result<String, AllocError> {
+    feeds_give_pieces();
+    cuts_outside();
+    cuts_end();
+    ends_first();
+    blank_has_no_token();
+    String::from_str(alloc, "laws")
+}
+
+/// The bytes of a number of spaces and a text. What is no number is none.
+fn script_of(alloc: Global, rest: &str) -> Result<Vec<u8>, AllocError> {
+    let (spaces, text) = cut_word(rest);
+    spaced(alloc, spaces.parse::<usize>().unwrap_or(0), text)
+}
+
+/// So many spaces, and then the bytes that a text writes.
+fn spaced(alloc: Global, spaces: usize, text: &str) -> Result<Vec<u8>, AllocError> {
+    let mut bytes = vec![in alloc; b' '; spaces]?;
+    percent_decode(text.as_bytes()).append_to(&mut bytes)?;
+    Ok(bytes)
+}
