@@ -1,0 +1,82 @@
+ghost use Rattle.std.specs.Prelude.{◌≡◌, ◌↔◌, IsTrue};
+ghost use Rattle.pt_expr.specs.Columns.{AreFitting};
+
+use percent_encoding::percent_decode;
+use pt_ast::{Cells, Column, Columns};
+use pt_value::{Bin, Ident, Kind, Value};
+use std::alloc::{AllocError, Global};
+
+/// The names and kinds of the columns.
+const COLUMNS: [(&str, Kind); 4] = [
+    ("i", Kind::Int),
+    ("b", Kind::BigInt),
+    ("d", Kind::Date),
+    ("s", Kind::Binary(30)),
+];
+
+/// The columns of the row.
+pub fn sample_columns(alloc: Global) -> Result<Columns, AllocError> {
+    let mut columns = Columns::new(alloc);
+    for (name, kind) in COLUMNS {
+        if let Ok(name) = Ident::of(name.as_bytes()) {
+            columns.push(column(name, kind))?;
+        }
+    }
+    Ok(columns)
+}
+
+fn column(name: Ident, kind: Kind) -> Column {
+    Column {
+        name,
+        kind,
+        not_null: false,
+        default: None,
+    }
+}
+
+/// The bytes that a text stands for.
+pub fn bytes_of(alloc: Global, text: &str) -> Result<Vec<u8>, AllocError> {
+    let mut bytes = Vec::new(alloc);
+    percent_decode(text.as_bytes()).append_to(&mut bytes)?;
+    Ok(bytes)
+}
+
+/// The values of cells with commas between.
+pub fn cells_of(alloc: Global, text: &str) -> Result<Cells, AllocError> {
+    let mut cells = Cells::new(alloc);
+    for cell in text.split(',') {
+        cells.push(value_of(alloc, cell)?)?;
+    }
+    Ok(cells)
+}
+
+/// The value that a cell is written as; NULL where it isn't written so.
+fn value_of(alloc: Global, text: &str) -> Result<Value, AllocError> {
+    if let Some(bytes) = text.strip_prefix("x") {
+        return Ok(Value::Bytes(Bin::of(bytes_of(alloc, bytes)?)));
+    }
+    Ok(number_value(text).unwrap_or(Value::Null))
+}
+
+fn number_value(text: &str) -> Option<Value> {
+    if let Some(number) = text.strip_prefix("i") {
+        return Some(Value::Int(number.parse::<i64>().ok()?));
+    }
+    let day = text.strip_prefix("d")?;
+    Some(Value::Day(day.parse::<i32>().ok()?))
+}
+
+/// Whether there is a cell for each column that fits its kind.
+pub fn are_fitting(columns: &Columns, cells: &Cells) -> bool
+    ensures { IsTrue result ↔ AreFitting columns.now cells.now }
+{
+    if columns.items().len() != cells.items().len() {
+        return false;
+    }
+    for (at, column) in columns.items().iter().enumerate() {
+        if !cells.items()[at].fits(column.kind) {
+            return false;
+        }
+    }
+    true
+}

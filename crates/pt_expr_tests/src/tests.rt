@@ -1,4 +1,0 @@
-mod conditions;
-mod expressions;
-mod sample;
-mod trees;
