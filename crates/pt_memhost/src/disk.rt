@@ -16,7 +16,7 @@ use std::alloc::{AllocError, Global};
 
 /// The files of a host in memory: the objects by number, the names as they are seen, and what a stop may take back of
 /// them: the names as of the last sync of names, and the changes since then.
-#[derive(Debug, Drop)]
+#[derive(Drop)]
 pub(crate) struct Disk {
     objects: Vec<FileObject>,
     names: Names,

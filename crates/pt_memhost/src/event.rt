@@ -2,7 +2,7 @@ use pt_host::Name;
 use pt_plain::List;
 
 /// A call that moved the world of a host in memory on.
-#[derive(Debug, Drop)]
+#[derive(Drop)]
 pub enum Event {
     /// The directory with this name was entered.
     Entered(List<u8>),

@@ -15,7 +15,7 @@ use std::alloc::{AllocError, Global};
 use std::marker::Model;
 
 /// A host in memory. It tells all of its content.
-#[derive(Debug, Drop)]
+#[derive(Drop)]
 pub struct MemHost {
     alloc: Global,
     kept: Kept,

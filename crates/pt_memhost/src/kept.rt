@@ -20,7 +20,7 @@ use std::marker::Model;
 
 /// What a host in memory was given, each call that moved its world on, and what it holds at present. Contracts see the
 /// first two, from which the last follows.
-#[derive(Debug, Drop)]
+#[derive(Drop)]
 pub(crate) struct Kept {
     alloc: Global,
     files: Files,

@@ -11,7 +11,7 @@ use std::collections::BTreeMap;
 pub(crate) type Names = BTreeMap<Name, usize>;
 
 /// A change of names.
-#[derive(Clone, Copy, Debug)]
+#[derive(Clone, Copy)]
 pub(crate) enum NameChange {
     /// The name has a new object with this number.
     Made(Name, usize),

@@ -11,7 +11,7 @@ use std::marker::Model;
 
 /// A file of the disk in memory: its bytes, what its length was at the last sync, and the ranges written since then, as a
 /// place and a count, the newest last.
-#[derive(Debug, Drop)]
+#[derive(Drop)]
 pub(crate) struct FileObject {
     bytes: Vec<u8>,
     least: usize,

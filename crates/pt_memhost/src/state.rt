@@ -15,7 +15,7 @@ use std::alloc::{AllocError, Global};
 
 /// What a host in memory holds at present: its input and how much of it was taken, what was said, its files, and how many
 /// syncs were made and bytes written. These two counts stay at 2^64 − 1.
-#[derive(Debug, Drop)]
+#[derive(Drop)]
 pub(crate) struct State {
     pub(crate) input: List<u8>,
     taken: usize,

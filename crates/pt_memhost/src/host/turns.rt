@@ -11,7 +11,7 @@ use pt_host::HostFail;
 use pt_plain::List;
 
 /// How a call goes.
-#[derive(Clone, Copy, Debug)]
+#[derive(Clone, Copy)]
 pub(crate) enum Turn {
     /// It is let through.
     Passes,
@@ -22,7 +22,7 @@ pub(crate) enum Turn {
 }
 
 /// What a call is on.
-#[derive(Clone, Copy, Debug)]
+#[derive(Clone, Copy)]
 pub(crate) enum Side {
     Disk,
     Input,
