@@ -1,45 +1,25 @@
-ghost use Rattle.std.specs.Prelude.{◌≡◌, ◌+◌, ◌++◌, [], length, IfOk, OnOk, OnErr};
-ghost use Rattle.pt_host.specs.World.{HasCause, Reads};
+//! A run over a real directory.
+ghost use Rattle.std.specs.Prelude.{◌≡◌, ◌+◌, ◌≤◌, length, IfOk};
+ghost use Rattle.pt_host.specs.World.{HasCause};
 
+use crate::running::{said_text, words_of};
+use crate::text::bytes_of;
 use pt_dirhost::DirHost;
+use pt_engine::{Ending, run};
 use pt_host::{Host, HostFail, Name};
-use pt_plain::List;
-use std::alloc::Global;
+use std::alloc::{AllocError, Global};
 use std::rt::Runtime;
+use std::{fs, io};
 
 /// The directory of a real host, with an input that is given and an output that is kept.
 #[derive(Drop)]
-pub struct Folder<R: Runtime> {
+struct Folder<R: Runtime> {
     inner: DirHost<R>,
-    input: List<u8>,
+    input: Vec<u8>,
     /// How many bytes of it were taken.
     taken: usize,
     said: Vec<u8>,
     out_faults: u64,
-}
-
-impl<R: Runtime> Folder<R> {
-    /// Nothing was taken or said. It takes no memory.
-    pub fn over(alloc: Global, inner: DirHost<R>, input: List<u8>) -> Folder<R>
-        ensures input { result.input ≡ input }
-        ensures taken { result.taken ≡ 0 }
-        ensures said { result.said.items ≡ [] }
-    {
-        Folder {
-            inner,
-            input,
-            taken: 0,
-            said: Vec::new(alloc),
-            out_faults: 0,
-        }
-    }
-
-    /// What was said.
-    pub fn said(&self) -> &[u8]
-        ensures { result.now ≡ self.now.said.items }
-    {
-        &self.said
-    }
 }
 
 /// The calls on the directory are those of the real host. `take` gives the bytes of the input in their order and doesn't
@@ -99,15 +79,12 @@ impl<R: Runtime> Host for Folder<R> {
     }
 
     fn take(&mut self, into: &mut [u8]) -> Result<usize, HostFail>
-        ensures reads { IfOk result (λ count. Reads self.old.input self.old.taken count into.old into.new) }
-        ensures next { IfOk result (λ count. self.new.taken ≡ self.old.taken + count) }
-        ensures input { self.new.input ≡ self.old.input }
-        ensures said { self.new.said ≡ self.old.said }
+        ensures bound { IfOk result (λ count. count ≤ length into.old) }
         ensures disk { ⟦<DirHost<R> as Host>⟧.disk_faults self.new.inner ≡ ⟦<DirHost<R> as Host>⟧.disk_faults self.old.inner }
         ensures input_faults { HasCause (⟦<DirHost<R> as Host>⟧.in_faults self.old.inner) (⟦<DirHost<R> as Host>⟧.in_faults self.new.inner) result }
         ensures output { ⟦<DirHost<R> as Host>⟧.out_faults self.new.inner + self.new.out_faults ≡ ⟦<DirHost<R> as Host>⟧.out_faults self.old.inner + self.old.out_faults }
     {
-        let input = self.input.items();
+        let input = self.input.as_slice();
         let from = input.len().min(self.taken);
         let count = into.len().min(input.len() - from);
         into[..count].copy_from_slice(&input[from..from + count]);
@@ -116,10 +93,6 @@ impl<R: Runtime> Host for Folder<R> {
     }
 
     fn say(&mut self, bytes: &[u8]) -> Result<(), HostFail>
-        ensures ok { OnOk result (self.new.said.items ≡ self.old.said.items ++ bytes.now) }
-        ensures failed { OnErr result (self.new.said.items ≡ self.old.said.items) }
-        ensures input { self.new.input ≡ self.old.input }
-        ensures taken { self.new.taken ≡ self.old.taken }
         ensures disk { ⟦<DirHost<R> as Host>⟧.disk_faults self.new.inner ≡ ⟦<DirHost<R> as Host>⟧.disk_faults self.old.inner }
         ensures input_faults { ⟦<DirHost<R> as Host>⟧.in_faults self.new.inner ≡ ⟦<DirHost<R> as Host>⟧.in_faults self.old.inner }
         ensures output { HasCause (⟦<DirHost<R> as Host>⟧.out_faults self.old.inner + self.old.out_faults) (⟦<DirHost<R> as Host>⟧.out_faults self.new.inner + self.new.out_faults) result }
@@ -134,4 +107,62 @@ impl<R: Runtime> Host for Folder<R> {
     }
 
     ghost sound = { λ host told. absurd told };
+}
+
+/// What a line gives that speaks of a real folder.
+pub fn real_text(rt: &HostRuntime, word: &str, rest: &str) -> io::Result<String> {
+    match word {
+        "makes" => made_text(rt, rest),
+        "removes" => removed_text(rt, rest),
+        _ => {
+            let (name, script) = rest.split_once(' ').unwrap_or((rest, ""));
+            folder_text(rt, name, script)
+        }
+    }
+}
+
+fn made_text(rt: &HostRuntime, name: &str) -> io::Result<String> {
+    let _ = fs::remove_dir_all(rt, name);
+    fs::create_dir(rt, name)?;
+    Ok(String::from_str(rt.alloc(), "made")?)
+}
+
+fn removed_text(rt: &HostRuntime, name: &str) -> io::Result<String> {
+    fs::remove_dir_all(rt, name)?;
+    Ok(String::from_str(rt.alloc(), "removed")?)
+}
+
+/// A run of this script over the folder of this name.
+fn folder_text(rt: &HostRuntime, name: &str, script: &str) -> io::Result<String> {
+    let alloc = rt.alloc();
+    let input = bytes_of(alloc, script)?;
+    let inner = DirHost::make(alloc, rt.clone()?);
+    Ok(run_text(alloc, name, inner, input)?)
+}
+
+fn run_text<R: Runtime>(
+    alloc: Global,
+    name: &str,
+    inner: DirHost<R>,
+    input: Vec<u8>,
+) -> Result<String, AllocError> {
+    let mut host = Folder {
+        inner,
+        input,
+        taken: 0,
+        said: Vec::new(alloc),
+        out_faults: 0,
+    };
+    let ending = run_named(alloc, name, &mut host)?;
+    said_text(alloc, &ending, &host.said)
+}
+
+fn run_named<R: Runtime>(
+    alloc: Global,
+    name: &str,
+    host: &mut Folder<R>,
+) -> Result<Ending, AllocError> {
+    let mut words = words_of(alloc, "run")?;
+    words.push(String::from_str(alloc, name)?)?;
+    Ok(run(alloc, &words, host))
 }

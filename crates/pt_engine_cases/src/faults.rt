@@ -1,0 +1,138 @@
+//! A run in which a call fails, and what the next run may show.
+use crate::files::{no_files, shadowed};
+use crate::running::{Fault, host_after, ran_text, said_over};
+use crate::text::push_bytes;
+use pt_engine::Ending;
+use pt_host::Image;
+use pt_memhost::MemHost;
+use std::alloc::{AllocError, Global};
+
+/// A script over the directory that a first one leaves, and the script that asks what the tables then show.
+#[derive(Drop)]
+pub struct Trial<'a> {
+    pub first: &'a str,
+    pub script: &'a str,
+    pub directory: Image,
+    /// The script, behind a space.
+    pub input: Vec<u8>,
+    pub query: String,
+}
+
+/// The trial that `TABLES FIRST | SCRIPT` writes.
+pub fn trial_of(alloc: Global, text: &str) -> Result<Trial<'_>, AllocError> {
+    let (tables, scripts) = text.split_once(' ').unwrap_or((text, ""));
+    let (first, script) = scripts.split_once(" | ").unwrap_or(("", scripts));
+    Ok(Trial {
+        first,
+        script,
+        directory: directory_after(alloc, first)?,
+        input: behind_space(alloc, script)?,
+        query: query_of(alloc, tables)?,
+    })
+}
+
+/// The same, where a shadow lies in the directory too.
+pub fn shadowed_trial_of(alloc: Global, text: &str) -> Result<Trial<'_>, AllocError> {
+    let Trial {
+        first,
+        script,
+        directory,
+        input,
+        query,
+    } = trial_of(alloc, text)?;
+    Ok(Trial {
+        first,
+        script,
+        directory: shadowed(alloc, directory)?,
+        input,
+        query,
+    })
+}
+
+/// The directory that a script leaves, run over an empty one.
+fn directory_after(alloc: Global, script: &str) -> Result<Image, AllocError> {
+    let empty = no_files(alloc)?;
+    let (_, host) = host_after(alloc, &empty, script.as_bytes(), Fault::Never, false)?;
+    host.image_pick(alloc, 0)
+}
+
+fn behind_space(alloc: Global, script: &str) -> Result<Vec<u8>, AllocError> {
+    let mut input = Vec::from_slice(alloc, b" ")?;
+    input.extend_from_slice(script.as_bytes())?;
+    Ok(input)
+}
+
+/// The script that asks for all rows of these tables.
+fn query_of(alloc: Global, tables: &str) -> Result<String, AllocError> {
+    let mut query = String::new(alloc);
+    for table in tables.split(',') {
+        write!(query, "SELECT * FROM {table};")?;
+    }
+    Ok(query)
+}
+
+impl Trial<'_> {
+    /// The host after a run of the script, and how it ended.
+    pub fn host_after(
+        &self,
+        alloc: Global,
+        fault: Fault,
+        shift: bool,
+    ) -> Result<(Ending, MemHost), AllocError> {
+        host_after(alloc, &self.directory, &self.input, fault, shift)
+    }
+
+    /// What the tables show over a directory that a stop may leave, by this choice.
+    pub fn shown_at(
+        &self,
+        alloc: Global,
+        host: &MemHost,
+        choice: u64,
+    ) -> Result<Vec<u8>, AllocError> {
+        let image = host.image_pick(alloc, choice)?;
+        said_over(alloc, &image, self.query.as_bytes())
+    }
+}
+
+/// How many choices there are of what a stop leaves.
+pub fn choices(host: &MemHost) -> u64 {
+    host.pending().saturating_add(1).saturating_mul(8)
+}
+
+/// How many calls a run of the script makes.
+pub fn calls_text(alloc: Global, trial: &Trial<'_>) -> Result<String, AllocError> {
+    let (_, host) = trial.host_after(alloc, Fault::Never, false)?;
+    let calls = host.calls();
+    format!(in alloc; "calls {calls}")
+}
+
+/// A run with this fault, and what the tables may show in the next one.
+pub fn fault_text(alloc: Global, trial: &Trial<'_>, fault: Fault) -> Result<String, AllocError> {
+    let (ending, host) = trial.host_after(alloc, fault, false)?;
+    let mut text = ran_text(alloc, &ending, &host)?;
+    push_shown(alloc, trial, &host, &mut text)?;
+    Ok(text)
+}
+
+/// Adds each text that the tables may show, once.
+fn push_shown(
+    alloc: Global,
+    trial: &Trial<'_>,
+    host: &MemHost,
+    text: &mut String,
+) -> Result<(), AllocError> {
+    let mut seen: Vec<Vec<u8>> = Vec::new(alloc);
+    for choice in 0..choices(host) {
+        let shown = trial.shown_at(alloc, host, choice)?;
+        if !is_among(&shown, &seen) {
+            text.push_str(" | ")?;
+            push_bytes(text, &shown)?;
+            seen.push(shown)?;
+        }
+    }
+    Ok(())
+}
+
+fn is_among(shown: &[u8], seen: &[Vec<u8>]) -> bool {
+    seen.iter().any(|one| one.as_slice() == shown)
+}
