@@ -72,12 +72,13 @@ impl TableDef {
     pub fn copy(&self, alloc: Global) -> Result<TableDef, AllocError>
         ensures { IfOk result (λ copied. copied ≡ self.now) }
     {
+        // The parts come first: each `?` drops what stands so far, and to prove that of `by` and `sub` takes the longest.
         Ok(TableDef {
+            parts: copy_parts(alloc, &self.parts)?,
             columns: copy_columns(alloc, &self.columns)?,
             keys: copy_keys(alloc, &self.keys)?,
             by: copy_by(alloc, &self.by)?,
             sub: copy_by(alloc, &self.sub)?,
-            parts: copy_parts(alloc, &self.parts)?,
         })
     }
 }

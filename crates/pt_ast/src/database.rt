@@ -9,7 +9,7 @@ use std::marker::Model;
 
 /// Where a row stands: the number of its partition, and of its subpartition in that. Both count from 0. An unpartitioned
 /// table has the one spot (0, 0), and without subpartitions `sub` is 0.
-#[derive(Clone, Copy, Debug, PartialEq, Eq)]
+#[derive(Clone, Copy)]
 pub struct Spot {
     pub part: u32,
     pub sub: u32,
@@ -19,7 +19,7 @@ pub struct Spot {
 pub type Cells = List<Value>;
 
 /// A row, with the serial number that it got when it was inserted.
-#[derive(Debug, Drop, PartialEq)]
+#[derive(Drop)]
 pub struct Row {
     pub serial: u64,
     pub cells: Cells,
@@ -29,7 +29,7 @@ pub struct Row {
 pub type Rows = List<Row>;
 
 /// A table: its rows stand by rising serial.
-#[derive(Debug, Drop, PartialEq)]
+#[derive(Drop)]
 pub struct Table {
     pub name: Ident,
     pub def: TableDef,
@@ -37,7 +37,7 @@ pub struct Table {
 }
 
 /// Tables whose names rise in byte order, each name once. Contracts see the list of them.
-#[derive(Debug, Drop, PartialEq)]
+#[derive(Drop)]
 pub struct Tables {
     list: List<Table>,
 }
@@ -90,7 +90,7 @@ impl Tables {
 }
 
 /// A database: its tables, and the serial number that the next row takes.
-#[derive(Debug, Drop, PartialEq)]
+#[derive(Drop)]
 pub struct Db {
     pub tables: Tables,
     pub next: u64,

@@ -1,6 +1,7 @@
 //! The plain data of statements, tables and databases: trees that say what was written or what is kept, and no more.
 //!
-//! - Every list is a `List` and every boxed child a `Held`, so equal trees are equal values, and each compares by `==`.
+//! - Every list is a `List` and every boxed child a `Held`, so equal trees are equal values. Of the types only the enums without data
+//!   compare by `==` and print by `{:?}`.
 //! - A `Stmt` is a statement as written, with its conditions (`Cond`) and expressions (`Expr`). A `TableSpec` is a table as written,
 //!   a `TableDef` its complete definition.
 //! - `copy` gives an equal value of an expression, of cells (`copy_cells`), of a row and of a definition.

@@ -3,7 +3,7 @@ ghost use Rattle.std.specs.Prelude.{◌≡◌};
 use pt_value::{Bin, Ident};
 
 /// What a refusal is about.
-#[derive(Clone, Copy, Debug, PartialEq, Eq)]
+#[derive(Clone, Copy)]
 pub enum Arg {
     Name(Ident),
     Number(u64),
@@ -14,14 +14,14 @@ pub enum Arg {
 }
 
 /// Why a statement is refused.
-#[derive(Clone, Copy, Debug, PartialEq, Eq)]
+#[derive(Clone, Copy)]
 pub struct Refusal {
     pub code: u8,
     pub arg: Arg,
 }
 
 /// What a statement answers: whole lines of text, and the code of its refusal, 0 where it isn't refused.
-#[derive(Debug, Drop, PartialEq)]
+#[derive(Drop)]
 pub struct Reply {
     pub code: u8,
     pub text: Bin,

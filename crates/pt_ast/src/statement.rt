@@ -3,7 +3,7 @@ use pt_plain::List;
 use pt_value::Ident;
 
 /// A value that is inserted or assigned.
-#[derive(Debug, Drop, PartialEq)]
+#[derive(Drop)]
 pub enum ValueSpec {
     /// The column's default.
     Default,
@@ -23,7 +23,7 @@ pub type Assigns = List<(Ident, ValueSpec)>;
 pub type Orders = List<(Ident, bool)>;
 
 /// Rows that are inserted. `parts` are the partitions that the statement names, `columns` the columns where they are listed.
-#[derive(Debug, Drop, PartialEq)]
+#[derive(Drop)]
 pub struct NewRows {
     pub table: Ident,
     pub parts: Option<Idents>,
@@ -32,7 +32,7 @@ pub struct NewRows {
 }
 
 /// Which rows of a table a statement takes, in which order, and how many at most.
-#[derive(Debug, Drop, PartialEq)]
+#[derive(Drop)]
 pub struct Tail {
     pub cond: Option<Cond>,
     pub order: Orders,
@@ -40,7 +40,7 @@ pub struct Tail {
 }
 
 /// A SELECT. `items` is `None` for `*`; `parts` are the partitions that it names.
-#[derive(Debug, Drop, PartialEq)]
+#[derive(Drop)]
 pub struct Query {
     pub items: Option<Exprs>,
     pub table: Ident,
@@ -49,7 +49,7 @@ pub struct Query {
 }
 
 /// A statement. The parts of a variant stand in the order of the text; the first name of each is its table.
-#[derive(Debug, Drop, PartialEq)]
+#[derive(Drop)]
 pub enum Stmt {
     /// `CREATE TABLE`; true for `IF NOT EXISTS`.
     Create(bool, Ident, TableSpec),

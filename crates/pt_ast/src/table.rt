@@ -3,7 +3,7 @@ use pt_plain::List;
 use pt_value::{Ident, Kind, Value};
 
 /// A column. `default` is `None` where the column has none, or NULL.
-#[derive(Debug, Drop, PartialEq)]
+#[derive(Drop)]
 pub struct Column {
     pub name: Ident,
     pub kind: Kind,
@@ -27,7 +27,7 @@ pub enum Rank {
 }
 
 /// A key.
-#[derive(Debug, Drop, PartialEq)]
+#[derive(Drop)]
 pub struct KeyDef {
     pub rank: Rank,
     pub name: Ident,
@@ -38,7 +38,7 @@ pub struct KeyDef {
 pub type KeyDefs = List<KeyDef>;
 
 /// What rows are partitioned by. The `bool` is true for `LINEAR`.
-#[derive(Debug, Drop, PartialEq)]
+#[derive(Drop)]
 pub enum PartBy {
     /// By nothing: there is one partition, without a definition.
     Whole,
@@ -51,7 +51,7 @@ pub enum PartBy {
 }
 
 /// A bound of a range, or a value of a list.
-#[derive(Debug, Drop, PartialEq)]
+#[derive(Drop)]
 pub enum Bound {
     Val(Value),
     /// `MAXVALUE`, above every value.
@@ -65,7 +65,7 @@ pub type BoundTuple = List<Bound>;
 pub type Tuples = List<BoundTuple>;
 
 /// A partition. `subs` are the names of its subpartitions.
-#[derive(Debug, Drop, PartialEq)]
+#[derive(Drop)]
 pub struct PartDef {
     pub name: Ident,
     pub bounds: Tuples,
@@ -76,7 +76,7 @@ pub struct PartDef {
 pub type Parts = List<PartDef>;
 
 /// The complete definition of a table, without its name: all default names and constants are worked out.
-#[derive(Debug, Drop, PartialEq)]
+#[derive(Drop)]
 pub struct TableDef {
     pub columns: Columns,
     pub keys: KeyDefs,

@@ -44,7 +44,7 @@ pub type Factors = List<(Op, Expr)>;
 pub type Exprs = List<Expr>;
 
 /// An expression. Parentheses and a leading plus make no node.
-#[derive(Debug, Drop, PartialEq)]
+#[derive(Drop)]
 pub enum Expr {
     /// A number. The sign of a negative one is a `Neg` round it.
     Number(i128),
@@ -65,7 +65,7 @@ pub enum Expr {
 pub type Conds = List<Cond>;
 
 /// A condition. The `bool` of `IsNull`, `In` and `Between` is true for the form with NOT.
-#[derive(Debug, Drop, PartialEq)]
+#[derive(Drop)]
 pub enum Cond {
     Or(Conds),
     And(Conds),

@@ -3,7 +3,7 @@ use pt_plain::List;
 use pt_value::{Bin, Ident};
 
 /// A constant as written. The `bool` of a number is true for minus.
-#[derive(Debug, Drop, PartialEq)]
+#[derive(Drop)]
 pub enum Literal {
     Number(bool, i128),
     Text(Bin),
@@ -14,7 +14,7 @@ pub enum Literal {
 }
 
 /// The type of a column as written. `VARCHAR` with `CHARACTER SET binary` is `Binary`; display widths aren't kept.
-#[derive(Clone, Copy, Debug, PartialEq, Eq)]
+#[derive(Clone, Copy)]
 pub enum KindSpec {
     Int,
     BigInt,
@@ -24,7 +24,7 @@ pub enum KindSpec {
 }
 
 /// An option of a column. Of contradicting ones the last counts. Comments aren't kept.
-#[derive(Debug, Drop, PartialEq)]
+#[derive(Drop)]
 pub enum ColOption {
     NotNull,
     Null,
@@ -40,7 +40,7 @@ pub type ColOptions = List<ColOption>;
 pub type Idents = List<Ident>;
 
 /// A column or a key of a table as written.
-#[derive(Debug, Drop, PartialEq)]
+#[derive(Drop)]
 pub enum Item {
     Column(Ident, KindSpec, ColOptions),
     /// A key, its name where one is written, and its columns.
@@ -51,14 +51,14 @@ pub enum Item {
 pub type Items = List<Item>;
 
 /// A table as written, without its name.
-#[derive(Debug, Drop, PartialEq)]
+#[derive(Drop)]
 pub struct TableSpec {
     pub items: Items,
     pub by: Option<PartSpec>,
 }
 
 /// A partitioning as written.
-#[derive(Debug, Drop, PartialEq)]
+#[derive(Drop)]
 pub struct PartSpec {
     pub main: MainSpec,
     /// The number after `PARTITIONS`.
@@ -69,7 +69,7 @@ pub struct PartSpec {
 }
 
 /// What a table is partitioned by.
-#[derive(Debug, Drop, PartialEq)]
+#[derive(Drop)]
 pub enum MainSpec {
     Range(Expr),
     List(Expr),
@@ -79,7 +79,7 @@ pub enum MainSpec {
 }
 
 /// A partitioning by a number. The `bool` is true for `LINEAR`.
-#[derive(Debug, Drop, PartialEq)]
+#[derive(Drop)]
 pub enum HashSpec {
     Hash(bool, Expr),
     /// By the key number of these columns, or of those of a key of the table where none is written.
@@ -87,7 +87,7 @@ pub enum HashSpec {
 }
 
 /// What the partitions are partitioned by.
-#[derive(Debug, Drop, PartialEq)]
+#[derive(Drop)]
 pub struct SubSpec {
     pub hash: HashSpec,
     /// The number after `SUBPARTITIONS`.
@@ -95,7 +95,7 @@ pub struct SubSpec {
 }
 
 /// The definition of a partition as written.
-#[derive(Debug, Drop, PartialEq)]
+#[derive(Drop)]
 pub struct PartItem {
     pub name: Ident,
     pub values: Option<ValuesSpec>,
@@ -107,7 +107,7 @@ pub struct PartItem {
 pub type PartItems = List<PartItem>;
 
 /// Which rows a partition takes, as written.
-#[derive(Debug, Drop, PartialEq)]
+#[derive(Drop)]
 pub enum ValuesSpec {
     /// `LESS THAN MAXVALUE`
     LessMax,
@@ -118,7 +118,7 @@ pub enum ValuesSpec {
 }
 
 /// A bound or a value of a list, as written.
-#[derive(Debug, Drop, PartialEq)]
+#[derive(Drop)]
 pub enum BoundSpec {
     Max,
     Value(Expr),
@@ -128,7 +128,7 @@ pub enum BoundSpec {
 pub type BoundSpecs = List<BoundSpec>;
 
 /// An entry of a list: a bound, or two and more in parentheses.
-#[derive(Debug, Drop, PartialEq)]
+#[derive(Drop)]
 pub enum Entry {
     One(BoundSpec),
     Many(BoundSpecs),

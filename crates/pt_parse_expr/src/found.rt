@@ -1,14 +1,14 @@
 use pt_ast::{Cmp, Cond, Expr, Exprs};
 
 /// What was read where both an expression and a condition may stand.
-#[derive(Debug, Drop)]
+#[derive(Drop)]
 pub(crate) enum Found {
     Value(Expr),
     Test(Cond),
 }
 
 /// What stands behind an expression and makes a condition of it. The `bool` is true for the form with NOT.
-#[derive(Debug, Drop)]
+#[derive(Drop)]
 pub(crate) enum Behind {
     Compare(Cmp, Expr),
     IsNull(bool),

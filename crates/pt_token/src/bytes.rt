@@ -2,7 +2,7 @@ ghost use Rattle.std.specs.Prelude.{◌≡◌, ◌≤◌, length, drop, All, IsT
 ghost use Rattle.pt_token.specs.Bytes.{begins_word, front, is_digit, is_hex_digit, is_in, is_letter, is_quote, is_white, is_word_byte};
 
 /// The kinds of bytes of which there are runs.
-#[derive(Clone, Copy, Debug)]
+#[derive(Clone, Copy)]
 pub(crate) enum Class {
     /// 0 to 9.
     Digit,

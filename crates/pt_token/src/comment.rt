@@ -7,7 +7,7 @@ use crate::bytes::{Class, front};
 use crate::state::State;
 
 /// What kind of a comment a `/*` opens.
-#[derive(Clone, Copy, Debug)]
+#[derive(Clone, Copy)]
 pub(crate) enum Comment {
     /// A comment that isn't read.
     Plain,

@@ -6,7 +6,7 @@ use crate::bytes::{behind, is_white};
 use crate::comment::{Comment, kind, line, opened_end};
 
 /// White space or a comment at the front of bytes.
-#[derive(Clone, Copy, Debug)]
+#[derive(Clone, Copy)]
 pub(crate) struct Gap {
     /// How many bytes it has.
     pub(crate) length: usize,

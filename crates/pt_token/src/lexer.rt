@@ -10,7 +10,7 @@ use crate::token::{Token, byte_at, next_token};
 use std::alloc::{AllocError, Global};
 
 /// A gap or a token at the front of bytes.
-#[derive(Debug, Drop)]
+#[derive(Drop)]
 pub(crate) struct Step {
     pub(crate) token: Option<Token>,
     /// How many bytes it has.

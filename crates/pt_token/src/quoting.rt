@@ -8,7 +8,7 @@ use pt_value::Bin;
 use std::alloc::{AllocError, Global};
 
 /// Where the next byte stands between two quotes.
-#[derive(Clone, Copy, Debug)]
+#[derive(Clone, Copy)]
 pub(crate) enum Quoting {
     /// In the text.
     Within,

@@ -34,7 +34,7 @@ pub enum SplitFault {
 }
 
 /// Cuts a script into pieces, as its bytes come. It stands for the bytes of its piece so far.
-#[derive(Debug, Drop)]
+#[derive(Drop)]
 pub struct Splitter {
     piece: Vec<u8>,
     state: State,

@@ -4,7 +4,7 @@ ghost use Rattle.pt_token.specs.Machine.{after_version, from_block, from_plain, 
 use crate::bytes::{is_digit, is_white};
 
 /// Where the next byte of a script stands. A quote keeps its mark, `'` or `"`.
-#[derive(Clone, Copy, Debug)]
+#[derive(Clone, Copy)]
 pub(crate) enum State {
     /// Outside quotes and comments.
     Plain,

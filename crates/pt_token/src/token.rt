@@ -9,7 +9,7 @@ use pt_value::Bin;
 use std::alloc::{AllocError, Global};
 
 /// A token of a piece, at the bytes from `from` up to and without `to`. Places count the bytes of the piece before them.
-#[derive(Debug, Drop)]
+#[derive(Drop)]
 pub struct Token {
     pub kind: TokenKind,
     pub from: usize,
@@ -17,7 +17,7 @@ pub struct Token {
 }
 
 /// What kind of a token it is.
-#[derive(Debug, Drop)]
+#[derive(Drop)]
 pub enum TokenKind {
     /// Letters, digits, `_` and `$`, of which the first is no digit.
     Word,
@@ -34,7 +34,7 @@ pub enum TokenKind {
 }
 
 /// A token at the front of bytes.
-#[derive(Debug, Drop)]
+#[derive(Drop)]
 pub(crate) struct Found {
     pub(crate) kind: TokenKind,
     /// How many bytes it has.

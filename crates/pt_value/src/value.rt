@@ -13,7 +13,7 @@ use std::cmp::Ordering;
 pub type Bin = List<u8>;
 
 /// What a cell of a table holds. A day is a count of days from 1970-01-01, negative before it.
-#[derive(Debug, Drop)]
+#[derive(Drop)]
 pub enum Value {
     Null,
     Int(i64),
@@ -35,7 +35,7 @@ pub enum Kind {
 }
 
 /// A value that is lent, or the number that an expression came to.
-#[derive(Clone, Copy, Debug)]
+#[derive(Clone, Copy)]
 pub enum Cell<'a> {
     Null,
     Wide(i128),
