@@ -1,7 +1,7 @@
 use pt_value::Ident;
 
 /// What the values of an expression are, besides NULL.
-#[derive(Clone, Copy, Debug, PartialEq, Eq)]
+#[derive(Clone, Copy, Debug)]
 pub enum ExprKind {
     /// NULL alone, which has every kind.
     Any,
@@ -12,7 +12,7 @@ pub enum ExprKind {
 }
 
 /// Why an expression or a condition isn't well typed: the first fault from left to right.
-#[derive(Clone, Copy, Debug, PartialEq, Eq)]
+#[derive(Clone, Copy, Debug)]
 pub enum CheckFault {
     /// There is no column of this name.
     NoColumn(Ident),

@@ -125,9 +125,12 @@ module _ (inner : Reader Found) where
   after_word name (Text bytes ∷ ts) = dated (is_date name) name bytes ts
   after_word name ts = Some (tree.Column name, ts)
 
+  abbrev pub divisor : Reader Expr
+  divisor (Fixed Comma ∷ ts) = value ts
+  divisor _ = None
+
   abbrev pub divided : Expr → Symbols → Reading Expr
-  divided x (Fixed Comma ∷ ts) = mapped (λ y. tree.Product x ((op.Mod, y) ∷ [])) (value ts)
-  divided x _ = None
+  divided x ts = mapped (λ y. tree.Product x ((op.Mod, y) ∷ [])) (divisor ts)
 
   abbrev pub divided_by : Reading Expr → Reading Expr
   divided_by (Some p) = divided p.0 p.1
@@ -198,9 +201,12 @@ module _ (inner : Reader Found) where
   member is_not (Fixed Open ∷ ts) = listed is_not (sum ts)
   member is_not _ = None
 
+  abbrev pub high : Reader Expr
+  high (Fixed And ∷ ts) = sum ts
+  high _ = None
+
   abbrev pub up_to : Bool → Expr → Symbols → Reading Behind
-  up_to is_not low (Fixed And ∷ ts) = mapped (behind.Between is_not low) (sum ts)
-  up_to is_not low _ = None
+  up_to is_not low ts = mapped (behind.Between is_not low) (high ts)
 
   abbrev pub from_low : Bool → Reading Expr → Reading Behind
   from_low is_not (Some p) = up_to is_not p.0 p.1

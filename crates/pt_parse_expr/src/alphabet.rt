@@ -2,7 +2,7 @@ use pt_ast::Cmp;
 use pt_value::{Bin, Ident};
 
 /// A token together with its bytes, as the grammar sees it.
-#[derive(Debug, Drop)]
+#[derive(Drop)]
 pub enum Symbol {
     /// A sign or a reserved word.
     Fixed(Mark),
@@ -17,7 +17,7 @@ pub enum Symbol {
 }
 
 /// A sign or a reserved word.
-#[derive(Clone, Copy, Debug, PartialEq, Eq)]
+#[derive(Clone, Copy, Debug)]
 pub enum Mark {
     /// `(`
     Open,
@@ -43,7 +43,7 @@ pub enum Mark {
 }
 
 /// A reserved word that stands in no expression and no condition.
-#[derive(Clone, Copy, Debug, PartialEq, Eq)]
+#[derive(Clone, Copy, Debug)]
 pub enum Reserved {
     Add,
     All,

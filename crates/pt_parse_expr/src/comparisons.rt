@@ -1,4 +1,4 @@
-ghost use Rattle.std.specs.Prelude.{◌≡◌, ◌+◌, ◌≤◌, length, drop, IfOk, [], ◌∷◌, true, false};
+ghost use Rattle.std.specs.Prelude.{◌≡◌, ◌+◌, ◌≤◌, length, drop, IfOk, [], ◌∷◌, Some, true, false};
 ghost use Rattle.pt_parse_expr.specs.Grammar as grammar;
 ghost use Rattle.pt_parse_expr.specs.Placing.{Nests, Reaches, Reads, ReadsMany, ReadsSome, ReachesSome};
 ghost use Rattle.pt_parse_expr.specs.Reader as spec;
@@ -6,7 +6,7 @@ ghost use Rattle.pt_parse_expr.specs.Reader as spec;
 use crate::alphabet::{Mark, Symbol};
 use crate::found::{Behind, Found};
 use crate::grammar::Grammar;
-use crate::source::{Reading, closes, peek};
+use crate::source::{Reading, beside, closed, peek};
 use pt_ast::{Cmp, Cond, Expr, Exprs};
 use std::alloc::{AllocError, Global};
 
@@ -66,14 +66,21 @@ impl<F: Fn(Global, &[Symbol], usize, usize) -> Reading<Found>> Grammar<F> {
         let Some(Symbol::Fixed(Mark::Open)) = peek(symbols, at) else {
             return Ok(None);
         };
-        let Some((first, next)) = self.sum(symbols, at + 1)? else {
-            return Ok(None);
-        };
-        let (more, next) = self.mores(symbols, next)?;
-        if !closes(symbols, next) {
-            return Ok(None);
+        match self.sum(symbols, at + 1)? {
+            None => Ok(None),
+            Some((first, next)) => self.listed(symbols, first, next, is_not),
         }
-        Ok(Some((Behind::In(is_not, list_of(first, more)?), next + 1)))
+    }
+
+    /// The list behind its first item, and the parenthesis that closes it.
+    fn listed(&self, symbols: &[Symbol], first: Expr, at: usize, is_not: bool) -> Reading<Behind>
+        requires nests { Nests self.now.depth (F.pre self.now.inner) (F.post self.now.inner) }
+        requires within { at ≤ length symbols.now }
+        ensures reads { Reads symbols.now result (spec.listed (spec.found self.now.depth) is_not (Some (first, drop at symbols.now))) }
+        ensures place { Reaches (at + 1) symbols.now result }
+    {
+        let (first, (more, next)) = beside(first, self.mores(symbols, at))?;
+        Ok(closed(symbols, Behind::In(is_not, list_of(first, more)?), next))
     }
 
     /// The bounds of BETWEEN.
@@ -84,15 +91,36 @@ impl<F: Fn(Global, &[Symbol], usize, usize) -> Reading<Found>> Grammar<F> {
         ensures reads { Reads symbols.now result (spec.range (spec.found self.now.depth) is_not (drop at symbols.now)) }
         ensures place { Reaches (at + 1) symbols.now result }
     {
-        let Some((low, next)) = self.sum(symbols, at)? else {
-            return Ok(None);
-        };
-        let Some(Symbol::Fixed(Mark::And)) = peek(symbols, next) else {
-            return Ok(None);
-        };
-        match self.sum(symbols, next + 1)? {
+        match self.sum(symbols, at)? {
+            None => Ok(None),
+            Some((low, next)) => self.up_to(symbols, low, next, is_not),
+        }
+    }
+
+    /// The range from this end up to the one behind AND.
+    fn up_to(&self, symbols: &[Symbol], low: Expr, at: usize, is_not: bool) -> Reading<Behind>
+        requires nests { Nests self.now.depth (F.pre self.now.inner) (F.post self.now.inner) }
+        requires within { at ≤ length symbols.now }
+        ensures reads { Reads symbols.now result (spec.up_to (spec.found self.now.depth) is_not low (drop at symbols.now)) }
+        ensures place { Reaches (at + 1) symbols.now result }
+    {
+        let (low, read) = beside(low, self.high(symbols, at))?;
+        match read {
             None => Ok(None),
             Some((high, next)) => Ok(Some((Behind::Between(is_not, low, high), next))),
+        }
+    }
+
+    /// AND, and the expression behind it.
+    fn high(&self, symbols: &[Symbol], at: usize) -> Reading<Expr>
+        requires nests { Nests self.now.depth (F.pre self.now.inner) (F.post self.now.inner) }
+        requires within { at ≤ length symbols.now }
+        ensures reads { Reads symbols.now result (spec.high (spec.found self.now.depth) (drop at symbols.now)) }
+        ensures place { Reaches (at + 1) symbols.now result }
+    {
+        match peek(symbols, at) {
+            Some(Symbol::Fixed(Mark::And)) => self.sum(symbols, at + 1),
+            _ => Ok(None),
         }
     }
 

@@ -7,7 +7,7 @@ use crate::alphabet::{Mark, Symbol};
 use crate::comparisons::with_behind;
 use crate::found::Found;
 use crate::grammar::Grammar;
-use crate::source::{Reading, closes, peek};
+use crate::source::{Reading, beside, peek};
 use pt_ast::{Cond, Conds, Expr};
 use pt_plain::Held;
 use std::alloc::{AllocError, Global};
@@ -20,7 +20,8 @@ impl<F: Fn(Global, &[Symbol], usize, usize) -> Reading<Found>> Grammar<F> {
         ensures reads { IfOk result (λ p. spec.compared (spec.found self.now.depth) (Some (x, drop at symbols.now)) ≡ Some (p.0, drop p.1 symbols.now)) }
         ensures place { IfOk result (λ p. (at ≤ p.1) × (p.1 ≤ length symbols.now)) }
     {
-        match self.behind_expr(symbols, at)? {
+        let (x, read) = beside(x, self.behind_expr(symbols, at))?;
+        match read {
             None => Ok((Found::Value(x), at)),
             Some((behind, next)) => Ok((Found::Test(with_behind(x, behind)), next)),
         }
@@ -60,15 +61,27 @@ impl<F: Fn(Global, &[Symbol], usize, usize) -> Reading<Found>> Grammar<F> {
         ensures reads { Reads symbols.now result (spec.opened (spec.found self.now.depth) (spec.closed (spec.found self.now.depth (drop at symbols.now)))) }
         ensures place { Reaches (at + 1) symbols.now result }
     {
-        let Some((found, next)) = self.nested(symbols, at)? else {
-            return Ok(None);
-        };
-        if !closes(symbols, next) {
-            return Ok(None);
+        match self.enclosed(symbols, at)? {
+            None => Ok(None),
+            Some((found, next)) => Ok(Some(self.opened_by(symbols, found, next)?)),
         }
+    }
+
+    /// What parentheses begin.
+    fn opened_by(
+        &self,
+        symbols: &[Symbol],
+        found: Found,
+        at: usize,
+    ) -> Result<(Found, usize), AllocError>
+        requires nests { Nests self.now.depth (F.pre self.now.inner) (F.post self.now.inner) }
+        requires within { at ≤ length symbols.now }
+        ensures reads { IfOk result (λ p. spec.opened_by (spec.found self.now.depth) found (drop at symbols.now) ≡ Some (p.0, drop p.1 symbols.now)) }
+        ensures place { IfOk result (λ p. (at ≤ p.1) × (p.1 ≤ length symbols.now)) }
+    {
         match found {
-            Found::Test(test) => Ok(Some((Found::Test(test), next + 1))),
-            Found::Value(x) => Ok(Some(self.continued(symbols, x, next + 1)?)),
+            Found::Test(test) => Ok((Found::Test(test), at)),
+            Found::Value(x) => self.continued(symbols, x, at),
         }
     }
 
@@ -163,16 +176,44 @@ impl<F: Fn(Global, &[Symbol], usize, usize) -> Reading<Found>> Grammar<F> {
         ensures reads { Reads symbols.now result (spec.conjunction (spec.found self.now.depth) (drop at symbols.now)) }
         ensures place { Reaches (at + 1) symbols.now result }
     {
-        let Some((found, next)) = self.negation(symbols, at)? else {
-            return Ok(None);
-        };
-        match found {
-            Found::Value(x) => Ok(Some((Found::Value(x), next))),
-            Found::Test(first) => {
-                let (more, next) = self.negations(symbols, next)?;
-                Ok(Some((Found::Test(and_of(first, more)?), next)))
-            }
+        match self.negation(symbols, at)? {
+            None => Ok(None),
+            Some((found, next)) => Ok(Some(self.and_by(symbols, found, next)?)),
         }
+    }
+
+    /// The conditions with AND between them of which this is the first, or an expression.
+    fn and_by(
+        &self,
+        symbols: &[Symbol],
+        found: Found,
+        at: usize,
+    ) -> Result<(Found, usize), AllocError>
+        requires nests { Nests self.now.depth (F.pre self.now.inner) (F.post self.now.inner) }
+        requires within { at ≤ length symbols.now }
+        ensures reads { IfOk result (λ p. spec.and_by (spec.found self.now.depth) found (drop at symbols.now) ≡ Some (p.0, drop p.1 symbols.now)) }
+        ensures place { IfOk result (λ p. (at ≤ p.1) × (p.1 ≤ length symbols.now)) }
+    {
+        match found {
+            Found::Value(x) => Ok((Found::Value(x), at)),
+            Found::Test(first) => self.and_after(symbols, first, at),
+        }
+    }
+
+    /// The same, behind a condition.
+    fn and_after(
+        &self,
+        symbols: &[Symbol],
+        first: Cond,
+        at: usize,
+    ) -> Result<(Found, usize), AllocError>
+        requires nests { Nests self.now.depth (F.pre self.now.inner) (F.post self.now.inner) }
+        requires within { at ≤ length symbols.now }
+        ensures reads { IfOk result (λ p. spec.and_by (spec.found self.now.depth) (Found.Test first) (drop at symbols.now) ≡ Some (p.0, drop p.1 symbols.now)) }
+        ensures place { IfOk result (λ p. (at ≤ p.1) × (p.1 ≤ length symbols.now)) }
+    {
+        let (first, (more, next)) = beside(first, self.negations(symbols, at))?;
+        Ok((Found::Test(and_of(first, more)?), next))
     }
 
     /// OR, and the condition behind it.
@@ -216,16 +257,44 @@ impl<F: Fn(Global, &[Symbol], usize, usize) -> Reading<Found>> Grammar<F> {
         ensures reads { Reads symbols.now result (spec.either (spec.found self.now.depth) (drop at symbols.now)) }
         ensures place { Reaches (at + 1) symbols.now result }
     {
-        let Some((found, next)) = self.conjunction(symbols, at)? else {
-            return Ok(None);
-        };
-        match found {
-            Found::Value(x) => Ok(Some((Found::Value(x), next))),
-            Found::Test(first) => {
-                let (more, next) = self.conjunctions(symbols, next)?;
-                Ok(Some((Found::Test(or_of(first, more)?), next)))
-            }
+        match self.conjunction(symbols, at)? {
+            None => Ok(None),
+            Some((found, next)) => Ok(Some(self.or_by(symbols, found, next)?)),
         }
+    }
+
+    /// The conditions with OR between them of which this is the first, or an expression.
+    fn or_by(
+        &self,
+        symbols: &[Symbol],
+        found: Found,
+        at: usize,
+    ) -> Result<(Found, usize), AllocError>
+        requires nests { Nests self.now.depth (F.pre self.now.inner) (F.post self.now.inner) }
+        requires within { at ≤ length symbols.now }
+        ensures reads { IfOk result (λ p. spec.or_by (spec.found self.now.depth) found (drop at symbols.now) ≡ Some (p.0, drop p.1 symbols.now)) }
+        ensures place { IfOk result (λ p. (at ≤ p.1) × (p.1 ≤ length symbols.now)) }
+    {
+        match found {
+            Found::Value(x) => Ok((Found::Value(x), at)),
+            Found::Test(first) => self.or_after(symbols, first, at),
+        }
+    }
+
+    /// The same, behind a condition.
+    fn or_after(
+        &self,
+        symbols: &[Symbol],
+        first: Cond,
+        at: usize,
+    ) -> Result<(Found, usize), AllocError>
+        requires nests { Nests self.now.depth (F.pre self.now.inner) (F.post self.now.inner) }
+        requires within { at ≤ length symbols.now }
+        ensures reads { IfOk result (λ p. spec.or_by (spec.found self.now.depth) (Found.Test first) (drop at symbols.now) ≡ Some (p.0, drop p.1 symbols.now)) }
+        ensures place { IfOk result (λ p. (at ≤ p.1) × (p.1 ≤ length symbols.now)) }
+    {
+        let (first, (more, next)) = beside(first, self.conjunctions(symbols, at))?;
+        Ok((Found::Test(or_of(first, more)?), next))
     }
 }
 

@@ -9,7 +9,7 @@ ghost use Rattle.pt_parse_expr.specs.declared.alphabet.Symbol.TheVariants.{Fixed
 use crate::alphabet::{Mark, Symbol};
 use crate::found::Found;
 use crate::grammar::Grammar;
-use crate::source::{Reading, closes, peek};
+use crate::source::{Reading, beside, peek};
 use crate::words::{func_of, is_date};
 use pt_ast::{Expr, Factors, Func, Op, Terms};
 use pt_plain::Held;
@@ -25,13 +25,10 @@ impl<F: Fn(Global, &[Symbol], usize, usize) -> Reading<Found>> Grammar<F> {
         ensures reads { Reads symbols.now result (spec.value (spec.found self.now.depth) (drop at symbols.now)) }
         ensures place { Reaches (at + 1) symbols.now result }
     {
-        let Some((found, next)) = self.nested(symbols, at)? else {
-            return Ok(None);
-        };
-        if !closes(symbols, next) {
-            return Ok(None);
+        match self.enclosed(symbols, at)? {
+            None => Ok(None),
+            Some((found, next)) => Ok(expr_at(found, next)),
         }
-        Ok(expr_at(found, next + 1))
     }
 
     /// A primary: a literal, a column, a call, or an expression in parentheses.
@@ -99,19 +96,50 @@ impl<F: Fn(Global, &[Symbol], usize, usize) -> Reading<Found>> Grammar<F> {
         let Some(Symbol::Fixed(Mark::Open)) = peek(symbols, at) else {
             return Ok(None);
         };
-        let Some((found, next)) = self.nested(symbols, at + 1)? else {
-            return Ok(None);
-        };
-        let Some((x, next)) = expr_at(found, next) else {
-            return Ok(None);
-        };
-        let Some(Symbol::Fixed(Mark::Comma)) = peek(symbols, next) else {
-            return Ok(None);
-        };
-        let Some((y, next)) = self.value(symbols, next + 1)? else {
-            return Ok(None);
-        };
-        Ok(Some((modulo(self.alloc, x, y)?, next)))
+        match self.first_of_two(symbols, at + 1)? {
+            None => Ok(None),
+            Some((x, next)) => self.divided(symbols, x, next),
+        }
+    }
+
+    /// The first expression in the parentheses of MOD.
+    fn first_of_two(&self, symbols: &[Symbol], at: usize) -> Reading<Expr>
+        requires nests { Nests self.now.depth (F.pre self.now.inner) (F.post self.now.inner) }
+        requires within { at ≤ length symbols.now }
+        ensures reads { Reads symbols.now result (spec.as_expr (spec.found self.now.depth (drop at symbols.now))) }
+        ensures place { Reaches (at + 1) symbols.now result }
+    {
+        match self.nested(symbols, at)? {
+            None => Ok(None),
+            Some((found, next)) => Ok(expr_at(found, next)),
+        }
+    }
+
+    /// The remainder of an expression by the one behind the comma.
+    fn divided(&self, symbols: &[Symbol], x: Expr, at: usize) -> Reading<Expr>
+        requires nests { Nests self.now.depth (F.pre self.now.inner) (F.post self.now.inner) }
+        requires within { at ≤ length symbols.now }
+        ensures reads { Reads symbols.now result (spec.divided (spec.found self.now.depth) x (drop at symbols.now)) }
+        ensures place { Reaches (at + 1) symbols.now result }
+    {
+        let (x, read) = beside(x, self.divisor(symbols, at))?;
+        match read {
+            None => Ok(None),
+            Some((y, next)) => Ok(Some((modulo(self.alloc, x, y)?, next))),
+        }
+    }
+
+    /// A comma, and the expression behind it with the parenthesis that closes it.
+    fn divisor(&self, symbols: &[Symbol], at: usize) -> Reading<Expr>
+        requires nests { Nests self.now.depth (F.pre self.now.inner) (F.post self.now.inner) }
+        requires within { at ≤ length symbols.now }
+        ensures reads { Reads symbols.now result (spec.divisor (spec.found self.now.depth) (drop at symbols.now)) }
+        ensures place { Reaches (at + 1) symbols.now result }
+    {
+        match peek(symbols, at) {
+            Some(Symbol::Fixed(Mark::Comma)) => self.value(symbols, at + 1),
+            _ => Ok(None),
+        }
     }
 
     /// A primary with an optional sign.
@@ -149,7 +177,10 @@ fn expr_at(found: Found, at: usize) -> Option<(Expr, usize)>
 {
     match found {
         Found::Value(x) => Some((x, at)),
-        Found::Test(_) => None,
+        Found::Test(test) => {
+            drop(test);
+            None
+        }
     }
 }
 

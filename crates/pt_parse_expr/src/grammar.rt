@@ -6,7 +6,7 @@ ghost use Rattle.pt_parse_expr.specs.Reader as spec;
 
 use crate::alphabet::Symbol;
 use crate::found::Found;
-use crate::source::Reading;
+use crate::source::{Reading, closed};
 use std::alloc::Global;
 
 /// The rules of expressions and conditions.
@@ -28,6 +28,19 @@ impl<F: Fn(Global, &[Symbol], usize, usize) -> Reading<Found>> Grammar<F> {
         ensures place { Reaches (at + 1) symbols.now result }
     {
         (self.inner)(self.alloc, symbols, self.depth, at)
+    }
+
+    /// The same, and the parenthesis that closes it.
+    pub(crate) fn enclosed(&self, symbols: &[Symbol], at: usize) -> Reading<Found>
+        requires nests { Nests self.now.depth (F.pre self.now.inner) (F.post self.now.inner) }
+        requires within { at ≤ length symbols.now }
+        ensures reads { Reads symbols.now result (spec.closed (spec.found self.now.depth (drop at symbols.now))) }
+        ensures place { Reaches (at + 1) symbols.now result }
+    {
+        match self.nested(symbols, at)? {
+            None => Ok(None),
+            Some((found, next)) => Ok(closed(symbols, found, next)),
+        }
     }
 }
 

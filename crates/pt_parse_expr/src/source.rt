@@ -1,5 +1,6 @@
-ghost use Rattle.std.specs.Prelude.{◌≡◌, ◌+◌, ◌<◌, ◌≤◌, length, drop, IsTrue, is_some};
-ghost use Rattle.pt_parse_expr.specs.Placing.{Closes, Peeks, lent};
+ghost use Rattle.std.specs.Prelude.{◌≡◌, ◌+◌, ◌<◌, ◌≤◌, length, drop, IfOk, IsTrue, Ok, is_some};
+ghost use Rattle.pt_parse_expr.specs.Placing.{Closes, Peeks, ReachesSome, ReadsSome, lent};
+ghost use Rattle.pt_parse_expr.specs.Reader.{close};
 
 use crate::alphabet::{Mark, Symbol};
 use std::alloc::AllocError;
@@ -21,4 +22,31 @@ pub(crate) fn closes(symbols: &[Symbol], at: usize) -> bool
     ensures within { IsTrue result → at < length symbols.now }
 {
     matches!(peek(symbols, at), Some(Symbol::Fixed(Mark::Close)))
+}
+
+/// What was read in parentheses, where a closing one stands behind it.
+pub(crate) fn closed<T: Drop>(symbols: &[Symbol], inside: T, at: usize) -> Option<(T, usize)>
+    requires { at ≤ length symbols.now }
+    ensures reads { ReadsSome symbols.now result (close inside (drop at symbols.now)) }
+    ensures place { ReachesSome (at + 1) symbols.now result }
+{
+    if closes(symbols, at) {
+        return Some((inside, at + 1));
+    }
+    None
+}
+
+/// What was read before together with what was read then, unless memory ran out. A tree that lives across a `?` is let go there,
+/// which is dear to prove of each function that does so; here it is proved once, of any type.
+pub(crate) fn beside<T: Drop, U>(
+    before: T,
+    then: Result<U, AllocError>,
+) -> Result<(T, U), AllocError>
+    ensures before { IfOk result (λ p. p.0 ≡ before) }
+    ensures then { IfOk result (λ p. then ≡ Ok p.1) }
+{
+    match then {
+        Ok(then) => Ok((before, then)),
+        Err(error) => Err(error),
+    }
 }

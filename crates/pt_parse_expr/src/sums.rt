@@ -6,7 +6,7 @@ ghost use Rattle.pt_parse_expr.specs.Reader as spec;
 use crate::alphabet::{Mark, Symbol};
 use crate::found::Found;
 use crate::grammar::Grammar;
-use crate::source::{Reading, peek};
+use crate::source::{Reading, beside, peek};
 use pt_ast::{Expr, Factors, Op, Terms};
 use pt_plain::Held;
 use std::alloc::{AllocError, Global};
@@ -64,7 +64,7 @@ impl<F: Fn(Global, &[Symbol], usize, usize) -> Reading<Found>> Grammar<F> {
         ensures reads { IfOk result (λ p. spec.product_after (spec.found self.now.depth) (Some (first, drop at symbols.now)) ≡ Some (p.0, drop p.1 symbols.now)) }
         ensures place { IfOk result (λ p. (at ≤ p.1) × (p.1 ≤ length symbols.now)) }
     {
-        let (factors, next) = self.factors(symbols, at)?;
+        let (first, (factors, next)) = beside(first, self.factors(symbols, at))?;
         Ok((product_of(self.alloc, first, factors)?, next))
     }
 
@@ -130,7 +130,7 @@ impl<F: Fn(Global, &[Symbol], usize, usize) -> Reading<Found>> Grammar<F> {
         ensures reads { IfOk result (λ p. spec.sum_after (spec.found self.now.depth) (Some (first, drop at symbols.now)) ≡ Some (p.0, drop p.1 symbols.now)) }
         ensures place { IfOk result (λ p. (at ≤ p.1) × (p.1 ≤ length symbols.now)) }
     {
-        let (terms, next) = self.terms(symbols, at)?;
+        let (first, (terms, next)) = beside(first, self.terms(symbols, at))?;
         Ok((sum_of(self.alloc, first, terms)?, next))
     }
 
