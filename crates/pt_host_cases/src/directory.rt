@@ -1,5 +1,6 @@
 //! Blocks about a real directory.
 use crate::calls::{disk_answer, done_text, stream_answer};
+use crate::runs;
 use crate::texts::{bytes_of, cut};
 use pt_dirhost::DirHost;
 use pt_host::Host;
@@ -27,6 +28,7 @@ fn answer(rt: &HostRuntime, host: &mut DirHost<HostRuntime>, line: &str) -> io::
         "enter" => Ok(done_text(rt.alloc(), host.enter(rest))?),
         "say" | "take" => Ok(stream_answer(rt.alloc(), host, word, rest)?),
         "folder" | "file" | "link" | "drop" | "gone" => prepare(rt, word, rest),
+        "run" => runs::answer(rt, rest),
         "show" => fs::read_to_string(rt, rest),
         _ if line.starts_with('#') => Ok(String::from_str(rt.alloc(), line)?),
         _ => Ok(disk_answer(rt.alloc(), host, word, rest)?),

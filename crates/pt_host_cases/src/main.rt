@@ -38,10 +38,11 @@
 //! | `said` | what was said |
 //! | `counts` | how many calls were made, in how many memory was wanting, how many name operations are pending, how many syncs were made and how many bytes were given to be written |
 //!
-//! | Beside a `DirHost` | Does by `std::fs` |
+//! | Beside a `DirHost` | What is done, by `std::fs` |
 //! |---|---|
 //! | `folder PATH`, `file PATH TEXT`, `link TARGET PATH` | makes a folder, a file, a symbolic link |
 //! | `show PATH` | prints the text of a file |
+//! | `run FOLDER SCRIPT` | `pt_engine::run` over a `DirHost` of its own, whose input is the script: what it says, and then its status and line |
 //! | `drop PATH`, `gone PATH` | removes a file, or a folder with all in it |
 //!
 //! | Plain data | Answer |
@@ -54,13 +55,15 @@
 //! | `joined BYTES BYTES` | in an array of 6 bytes |
 //! | `held N N` | a `Held` number, given back, and whether it equals the other one |
 //!
-//! It stands on `pt_memhost`, `pt_dirhost`, `pt_host` and `pt_plain`.
+//! It stands on `pt_memhost`, `pt_dirhost`, `pt_host` and `pt_plain`, and on `pt_engine` for runs over a real folder, each of which
+//! goes on with what the one before it kept.
 #![tactic(auto)]
 
 mod calls;
 mod directory;
 mod memory;
 mod plain;
+mod runs;
 mod stage;
 mod texts;
 
