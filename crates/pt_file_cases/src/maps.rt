@@ -1,11 +1,11 @@
 //! The map that a directory stands for.
-ghost use Rattle.std.specs.Prelude.{◌≡◌, OnOk, IsSome, IsTrue, None};
+ghost use Rattle.std.specs.Prelude.{◌≡◌, OnOk, IsTrue, None};
 ghost use Rattle.pt_host.specs.Disk.{IsAtRest};
 ghost use Rattle.pt_memhost.specs.Memory.{world_in};
 ghost use Rattle.pt_store.specs.Store.{IsStanding, is_live};
 
 use crate::texts::{files_text, image_of, push_bytes, push_file};
-use pt_host::{Host, HostFail, Image, Name};
+use pt_host::{Host, Image, Name};
 use pt_memhost::MemHost;
 use pt_store::{Stop, Store};
 use std::alloc::{AllocError, Global};

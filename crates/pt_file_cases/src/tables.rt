@@ -1,9 +1,8 @@
 //! The files of tables.
-ghost use Rattle.std.specs.Prelude.{IfOk};
 ghost use Rattle.pt_host.specs.Listed.{AreRising};
 ghost use Rattle.pt_flat.specs.Sound.{IsSound};
 
-use crate::texts::{bytes_of, bytes_text, cut, files_text, image_of, push_bytes};
+use crate::texts::{bytes_of, bytes_text, files_text, image_of, push_bytes};
 use pt_flat::{Db, Rows, Stmt, Table, Word, step};
 use pt_host::Files;
 use pt_plain::List;

@@ -51,6 +51,7 @@
 //! | `rising FILE..` | whether these are an `Image` |
 //! | `list N..` | a `List` of these numbers, by `push`; `+AT:N` is `insert`, `=AT:N` is `item_mut` |
 //! | `bytes BYTES` | a `List` by `from_slice` |
+//! | `same BYTES BYTES` | whether the `List`s of these bytes compare equal |
 //! | `padded BYTES` | in an array of 4 bytes |
 //! | `joined BYTES BYTES` | in an array of 6 bytes |
 //! | `held N N` | a `Held` number, given back, and whether it equals the other one |
@@ -68,7 +69,6 @@ mod stage;
 mod texts;
 
 use std::io;
-use std::io::Read;
 
 fn main(rt: HostRuntime) -> io::Result<()> {
     let text = io::read_to_string(rt.alloc(), rt.reader())?;

@@ -1,7 +1,7 @@
 //! Lines about names, images, lists and short bytes.
 ghost use Rattle.std.specs.Prelude.{◌≤◌, length, IfSome};
 
-use crate::texts::{bytes_of, bytes_text, cut, image_of, name_of, push_bytes};
+use crate::texts::{bytes_of, bytes_text, cut, image_of, push_bytes};
 use pt_host::Name;
 use pt_plain::{Held, List, joined, padded};
 use std::alloc::{AllocError, Global};
@@ -22,6 +22,7 @@ fn answer(alloc: Global, line: &str) -> Result<String, AllocError> {
         "rising" => rising_text(alloc, rest),
         "list" => list_text(alloc, rest),
         "bytes" => from_slice_text(alloc, rest),
+        "same" => same_text(alloc, rest),
         "padded" => padded_text(alloc, rest),
         "joined" => joined_text(alloc, rest),
         "held" => held_text(alloc, rest),
@@ -116,6 +117,14 @@ fn from_slice_text(alloc: Global, text: &str) -> Result<String, AllocError> {
     let bytes = bytes_of(alloc, text)?;
     let list = List::from_slice(alloc, &bytes)?;
     bytes_text(alloc, list.items())
+}
+
+fn same_text(alloc: Global, text: &str) -> Result<String, AllocError> {
+    let (one, other) = cut(text);
+    let one = List::of(bytes_of(alloc, one)?);
+    let other = List::of(bytes_of(alloc, other)?);
+    let is_same = one == other;
+    format!(in alloc; "{is_same}")
 }
 
 fn padded_text(alloc: Global, text: &str) -> Result<String, AllocError> {
