@@ -1,6 +1,6 @@
 //! A run over a real directory.
 ghost use Rattle.std.specs.Prelude.{◌≡◌, ◌+◌, ◌≤◌, length, IfOk};
-ghost use Rattle.pt_host.specs.World.{HasCause};
+ghost use Rattle.pt_host.specs.Counts.{InputCall, OutputCall};
 
 use crate::running::{said_text, words_of};
 use crate::text::bytes_of;
@@ -32,11 +32,7 @@ impl<R: Runtime> Host for Folder<R> {
 
     ghost world = { λ _. untold };
 
-    ghost disk_faults = { λ host. ⟦<DirHost<R> as Host>⟧.disk_faults host.inner };
-
-    ghost in_faults = { λ host. ⟦<DirHost<R> as Host>⟧.in_faults host.inner };
-
-    ghost out_faults = { λ host. ⟦<DirHost<R> as Host>⟧.out_faults host.inner + host.out_faults };
+    ghost counts = { λ host. let inner = ⟦<DirHost<R> as Host>⟧.counts host.inner in record { disk = inner.disk; input = inner.input; output = inner.output + host.out_faults } };
 
     fn enter(&mut self, dir: &str) -> Result<(), HostFail> {
         self.inner.enter(dir)
@@ -80,9 +76,7 @@ impl<R: Runtime> Host for Folder<R> {
 
     fn take(&mut self, into: &mut [u8]) -> Result<usize, HostFail>
         ensures bound { IfOk result (λ count. count ≤ length into.old) }
-        ensures disk { ⟦<DirHost<R> as Host>⟧.disk_faults self.new.inner ≡ ⟦<DirHost<R> as Host>⟧.disk_faults self.old.inner }
-        ensures input_faults { HasCause (⟦<DirHost<R> as Host>⟧.in_faults self.old.inner) (⟦<DirHost<R> as Host>⟧.in_faults self.new.inner) result }
-        ensures output { ⟦<DirHost<R> as Host>⟧.out_faults self.new.inner + self.new.out_faults ≡ ⟦<DirHost<R> as Host>⟧.out_faults self.old.inner + self.old.out_faults }
+        ensures counts { InputCall (record { disk = (⟦<DirHost<R> as Host>⟧.counts self.old.inner).disk; input = (⟦<DirHost<R> as Host>⟧.counts self.old.inner).input; output = (⟦<DirHost<R> as Host>⟧.counts self.old.inner).output + self.old.out_faults }) (record { disk = (⟦<DirHost<R> as Host>⟧.counts self.new.inner).disk; input = (⟦<DirHost<R> as Host>⟧.counts self.new.inner).input; output = (⟦<DirHost<R> as Host>⟧.counts self.new.inner).output + self.new.out_faults }) result }
     {
         let input = self.input.as_slice();
         let from = input.len().min(self.taken);
@@ -93,9 +87,7 @@ impl<R: Runtime> Host for Folder<R> {
     }
 
     fn say(&mut self, bytes: &[u8]) -> Result<(), HostFail>
-        ensures disk { ⟦<DirHost<R> as Host>⟧.disk_faults self.new.inner ≡ ⟦<DirHost<R> as Host>⟧.disk_faults self.old.inner }
-        ensures input_faults { ⟦<DirHost<R> as Host>⟧.in_faults self.new.inner ≡ ⟦<DirHost<R> as Host>⟧.in_faults self.old.inner }
-        ensures output { HasCause (⟦<DirHost<R> as Host>⟧.out_faults self.old.inner + self.old.out_faults) (⟦<DirHost<R> as Host>⟧.out_faults self.new.inner + self.new.out_faults) result }
+        ensures { OutputCall (record { disk = (⟦<DirHost<R> as Host>⟧.counts self.old.inner).disk; input = (⟦<DirHost<R> as Host>⟧.counts self.old.inner).input; output = (⟦<DirHost<R> as Host>⟧.counts self.old.inner).output + self.old.out_faults }) (record { disk = (⟦<DirHost<R> as Host>⟧.counts self.new.inner).disk; input = (⟦<DirHost<R> as Host>⟧.counts self.new.inner).input; output = (⟦<DirHost<R> as Host>⟧.counts self.new.inner).output + self.new.out_faults }) result }
     {
         match self.said.extend_from_slice(bytes) {
             Ok(()) => Ok(()),

@@ -1,0 +1,151 @@
+//! A call fails in the middle of a replacement.
+ghost use Rattle.std.specs.Prelude.{◌≡◌, IsTrue, IsSome, None, Contains, map};
+ghost use Rattle.pt_host.specs.Disk.{IsAtRest};
+ghost use Rattle.pt_host.specs.Listed.{AreRising};
+ghost use Rattle.pt_memhost.specs.Memory.{world_in};
+ghost use Rattle.pt_store.specs.Left.{serials_name};
+ghost use Rattle.pt_store.specs.Store.{IsStanding, is_live};
+
+use crate::maps::{map_text, stop_text};
+use crate::replacing::has_serials;
+use crate::texts::{cut, image_of};
+use pt_host::{Files, Host, HostFail, Image, Name};
+use pt_memhost::MemHost;
+use pt_plain::List;
+use pt_store::{Stop, Store};
+use std::alloc::{AllocError, Global};
+
+/// Which call fails, counted from 0, and whether one more call is made before.
+#[derive(Clone, Copy)]
+struct Order {
+    number: u64,
+    is_shifted: bool,
+}
+
+pub(crate) fn answer(alloc: Global, directory: &str, rest: &str) -> Result<String, AllocError> {
+    let (number, rest) = cut(rest);
+    let (shift, files) = cut(rest);
+    let order = Order {
+        number: number.parse::<u64>().unwrap_or(0),
+        is_shifted: shift == "1",
+    };
+    let (Some(image), Some(map)) = (image_of(alloc, directory, "")?, image_of(alloc, files, "")?)
+    else {
+        return String::from_str(alloc, "no files");
+    };
+    fault_over(alloc, &image, &map, order)
+}
+
+fn fault_over(
+    alloc: Global,
+    image: &Image,
+    map: &Image,
+    order: Order,
+) -> Result<String, AllocError> {
+    let old = map_text(alloc, image)?;
+    let new = new_text(alloc, map)?;
+    let mut host = MemHost::from_image(alloc, image, b"")?;
+    let answer = match replace_in(alloc, &mut host, map, order) {
+        Ok(answer) => String::from_str(alloc, answer)?,
+        Err(stop) => stop_text(alloc, &stop)?,
+    };
+    let images = images_text(alloc, &host, old.as_str(), new.as_str())?;
+    format!(in alloc; "{answer} {images}")
+}
+
+/// The map of these files as it is read back.
+fn new_text(alloc: Global, map: &Image) -> Result<String, AllocError> {
+    let count = map.files.items().len();
+    let word = format!(in alloc; "map {count}")?;
+    crate::texts::files_text(alloc, word.as_str(), map.files.items())
+}
+
+/// What a replacement answers of which a call fails, and whether the store is live.
+fn replace_in(
+    alloc: Global,
+    host: &mut MemHost,
+    map: &Image,
+    order: Order,
+) -> Result<&'static str, Stop>
+    requires outside { (world_in host.old).dir ≡ None }
+    requires rests { IsAtRest (world_in host.old).now.fs }
+{
+    if !has_serials(map.files.items()) {
+        return Ok("no serials.cnt");
+    }
+    host.enter("d")?;
+    let mut store = Store::attach(alloc, host)?;
+    fail(alloc, host, order)?;
+    Ok(replaced(alloc, &mut store, host, &map.files))
+}
+
+fn replaced(alloc: Global, store: &mut Store, host: &mut MemHost, files: &Files) -> &'static str
+    requires live { IsTrue (is_live store.old) }
+    requires stands { IsStanding store.old (world_in host.old) }
+    requires rising { AreRising files.now }
+    requires serials { Contains (map (λ file. file.0) files.now) serials_name }
+{
+    let answer = store.replace(alloc, host, files);
+    match (answer, store.is_live()) {
+        (Ok(()), true) => "done live",
+        (Ok(()), false) => "done spent",
+        (Err(Stop::Fault), true) => "fault live",
+        (Err(Stop::Fault), false) => "fault spent",
+        (Err(_), _) => "another stop",
+    }
+}
+
+/// Orders a call to fail. A change of names that fails is made exactly where its number is odd, counted over all calls.
+fn fail(alloc: Global, host: &mut MemHost, order: Order) -> Result<(), Stop>
+    requires { IsSome (world_in host.old).dir }
+    ensures { world_in host.new ≡ world_in host.old }
+{
+    if order.is_shifted {
+        look(host)?;
+    }
+    fail_call(alloc, host, order.number)?;
+    Ok(())
+}
+
+fn fail_call(alloc: Global, host: &mut MemHost, number: u64) -> Result<(), AllocError>
+    ensures { world_in host.new ≡ world_in host.old }
+{
+    let number = host.calls().saturating_add(number);
+    let numbers = List::from_slice(alloc, &[number])?;
+    host.fail_calls(numbers);
+    Ok(())
+}
+
+/// Makes one more call, which changes nothing.
+fn look(host: &mut MemHost) -> Result<(), HostFail>
+    requires { IsSome (world_in host.old).dir }
+    ensures { world_in host.new ≡ world_in host.old }
+{
+    if let Some(name) = Name::of(b"none") {
+        host.length(&name)?;
+    }
+    Ok(())
+}
+
+/// How many images a stop may leave now, and what they show when they are opened.
+fn images_text(alloc: Global, host: &MemHost, old: &str, new: &str) -> Result<String, AllocError> {
+    let images = host.pending().saturating_add(1).saturating_mul(8);
+    let (mut is_old, mut is_new, mut is_other) = (0u64, 0u64, 0u64);
+    for choice in 0..images {
+        let map = image_text(alloc, host, choice)?;
+        if map.as_str() == old {
+            is_old = is_old.saturating_add(1);
+        } else if map.as_str() == new {
+            is_new = is_new.saturating_add(1);
+        } else {
+            is_other = is_other.saturating_add(1);
+        }
+    }
+    format!(in alloc; "images {images} old {is_old} new {is_new} other {is_other}")
+}
+
+/// The map that an image stands for.
+fn image_text(alloc: Global, host: &MemHost, choice: u64) -> Result<String, AllocError> {
+    let image = host.image_pick(alloc, choice)?;
+    map_text(alloc, &image)
+}

@@ -1,0 +1,97 @@
+//! Asks the store and the files of tables one question a line, and prints one answer a line.
+//!
+//! An empty line and a line that begins with `#` are printed as they stand. BYTES are bytes as they stand, where `%` and two
+//! hexadecimal digits are one, and FILE is `NAME=BYTES`.
+//!
+//! | Line | Answer |
+//! |---|---|
+//! | `files FILE..` | these files are the directory that the next lines ask about: `files` and these, or `no files` where their names don't rise |
+//!
+//! A question about the directory may end with a CHANGE of one of its files, which the directory itself doesn't take:
+//! `cut COUNT NAME` leaves so many bytes, `set PLACE BYTE NAME` puts another byte at a place, `longer BYTES NAME` adds
+//! bytes, and `is BYTES NAME` puts others in their place.
+//!
+//! | Line | Answer |
+//! |---|---|
+//! | `db CHANGE` | the database by `db_of`, `next N` and each table as `TABLE(COLUMN) SERIAL:VALUE ..`, or `none` |
+//! | `again CHANGE` | the files that `files_of` makes of that database, or `none` |
+//! | `map CHANGE` | the map that a `Store` reads back over these files at rest, or `bad NAME PLACE` |
+//! | `length NAME` | the length that the store tells, or `absent` |
+//! | `left` | how many name operations are pending once a store was attached, and the files that a stop then leaves |
+//! | `replace FILE..` | puts this map in the place of the one of the directory, which is from then on what is left: how many calls it took, whether the store is live, how many name operations are pending, in how many calls memory was wanting, and what the same store reads back |
+//! | `fault NUMBER SHIFT FILE..` | the same replacement with a fault in its call of this number, counted from 0, and with SHIFT 1 after one call more: the answer, whether the store is live, and of the images that a stop may then leave how many were opened, how many show the old map, the new one, and another |
+//!
+//! | Line without the directory | Answer |
+//! |---|---|
+//! | `column BYTES` | the column by `column_of`, or `none` |
+//! | `definition COLUMN` | the bytes by `definition_of` |
+//! | `rows BYTES` | `SERIAL:VALUE ..` by `rows_of`, or `none` |
+//! | `put SERIAL:VALUE ..` | the bytes by `rows_bytes` |
+//! | `next BYTES` | the next serial by `next_of`, or `none` |
+//! | `counter N` | the bytes by `counter_bytes` |
+//! | `made STEP..` | the files by `files_of` of the database that these steps make: `TABLE=COLUMN` creates, `TABLE+VALUE` inserts |
+//! | `laws` | calls the functions whose clauses are theorems |
+//!
+//! It stands on `pt_store`, `pt_table_files` and `pt_flat`, and on `pt_memhost` for the host.
+#![tactic(auto)]
+
+mod faults;
+mod maps;
+mod replacing;
+mod tables;
+mod texts;
+
+use std::alloc::{AllocError, Global};
+use std::io;
+
+fn main(rt: HostRuntime) -> io::Result<()> {
+    let text = io::read_to_string(rt.alloc(), rt.reader())?;
+    let mut directory = String::new(rt.alloc());
+    for line in text.as_str().lines() {
+        let answer = answer(rt.alloc(), &mut directory, line)?;
+        println!(rt; "{answer}")?;
+    }
+    Ok(())
+}
+
+/// Answers a line, which may change the directory.
+fn answer(alloc: Global, directory: &mut String, line: &str) -> Result<String, AllocError> {
+    let (word, rest) = texts::cut(line);
+    match word {
+        "files" => {
+            *directory = String::from_str(alloc, rest)?;
+            texts::directory_text(alloc, rest)
+        }
+        "replace" => replacing::answer(alloc, directory, rest),
+        _ => answer_about(alloc, directory.as_str(), word, rest, line),
+    }
+}
+
+fn answer_about(
+    alloc: Global,
+    directory: &str,
+    word: &str,
+    rest: &str,
+    line: &str,
+) -> Result<String, AllocError> {
+    match word {
+        "db" | "again" => tables::directory_answer(alloc, directory, word, rest),
+        "map" => maps::map_answer(alloc, directory, rest),
+        "length" => maps::length_answer(alloc, directory, rest),
+        "left" => maps::left_answer(alloc, directory),
+        "fault" => faults::answer(alloc, directory, rest),
+        "laws" => {
+            laws();
+            String::from_str(alloc, word)
+        }
+        "" => Ok(String::new(alloc)),
+        _ if line.starts_with('#') => String::from_str(alloc, line),
+        _ => tables::bytes_answer(alloc, word, rest),
+    }
+}
+
+fn laws() {
+    pt_store::stands_for_one_map();
+    pt_table_files::one_database();
+    pt_table_files::no_files();
+}

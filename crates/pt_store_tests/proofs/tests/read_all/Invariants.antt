@@ -1,6 +1,0 @@
-use Rattle.pt_memhost.specs.Memory.{world_in}
-use Rattle.pt_store.specs.Store.{IsStanding}
-use Rattle.pt_store_tests.proofs.tests.read_all.Given as goal
-
-abbrev pub invariant-loop-i : goal.invariant-loop-i
-invariant-loop-i l = IsStanding l.store (world_in l.host)
