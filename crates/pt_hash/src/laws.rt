@@ -1,0 +1,12 @@
+ghost use Rattle.pt_hash.specs.Laws.{GreatestPower, LeastPower, LinearSplit};
+
+/// From n partitions to n + 1 only values of `split_source` move, and only to the new partition.
+pub fn linear_split()
+    ensures { LinearSplit }
+{}
+
+/// `least_power` and `greatest_power` are the powers of two that they are said to be.
+pub fn one_power()
+    ensures least { LeastPower }
+    ensures greatest { GreatestPower }
+{}
