@@ -1,7 +1,7 @@
 -- Which of n partitions, counted from 0, a number or a key goes to. MySQL 5.7 manual, section 22.2.4, "HASH Partitioning";
 -- section 22.2.4.1, "LINEAR HASH Partitioning"; section 22.2.5, "KEY Partitioning"; and section 22.2.7, "How MySQL Partitioning
 -- Handles NULL". The manual leaves open what becomes of negative numbers, and KEY's function: these are this project's.
-use Rattle.std.specs.Prelude.{◌≡◌, ℕ, zero, suc, ◌+◌, ◌-◌, ◌*◌, ◌/◌, ◌%◌, ◌^◌, ◌<◌, ◌≤◌, Bool, nat_lt, nat_le, if◌then◌else◌, ℤ, pos, ◌+ℤ◌, unsigned_abs, bit_xor, List, Option, Some, None}
+use Rattle.std.specs.Prelude.{◌≡◌, ℕ, zero, suc, ◌+◌, ◌-◌, ◌*◌, ◌/◌, ◌%◌, ◌^◌, ◌≤◌, Bool, nat_lt, nat_le, if◌then◌else◌, ℤ, pos, ◌+ℤ◌, unsigned_abs, bit_xor, List, Option, Some, None}
 use Rattle.std.specs.Int.{int_rem_euclid}
 use Rattle.std.specs.List.{fold}
 use Rattle.pt_value.specs.declared.value.Value.{Value}
