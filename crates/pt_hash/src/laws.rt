@@ -1,4 +1,4 @@
-ghost use Rattle.pt_hash.specs.Laws.{GreatestPower, LeastPower, LinearSplit};
+ghost use Rattle.pt_hash.specs.Laws.{GreatestPower, LeastPower, LinearSplit, Residue};
 
 /// From n partitions to n + 1 only values of `split_source` move, and only to the new partition.
 pub fn linear_split()
@@ -9,4 +9,9 @@ pub fn linear_split()
 pub fn one_power()
     ensures least { LeastPower }
     ensures greatest { GreatestPower }
+{}
+
+/// `residue` is what it is said to be.
+pub fn one_residue()
+    ensures { Residue }
 {}

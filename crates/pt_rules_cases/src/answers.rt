@@ -1,7 +1,7 @@
 use crate::bounds::{put_list, put_list_columns, put_range, put_range_columns, put_step};
 use crate::numbers::{put_key, put_parts, put_split};
 use pt_bounds::{one_list, one_tuple};
-use pt_hash::{linear_split, one_power};
+use pt_hash::{linear_split, one_power, one_residue};
 use std::alloc::{AllocError, Global};
 
 /// Writes the answer of a line.
@@ -28,6 +28,7 @@ pub fn answer(alloc: Global, out: &mut String, line: &str) -> Result<(), AllocEr
 fn put_laws(out: &mut String) -> Result<(), AllocError> {
     linear_split();
     one_power();
+    one_residue();
     one_tuple();
     one_list();
     out.push_str("laws")

@@ -1,7 +1,7 @@
 -- Which of n partitions, counted from 0, a number or a key goes to. MySQL 5.7 manual, section 22.2.4, "HASH Partitioning";
 -- section 22.2.4.1, "LINEAR HASH Partitioning"; section 22.2.5, "KEY Partitioning"; and section 22.2.7, "How MySQL Partitioning
 -- Handles NULL". The manual leaves open what becomes of negative numbers, and KEY's function: these are this project's.
-use Rattle.std.specs.Prelude.{◌≡◌, ℕ, zero, suc, ◌+◌, ◌-◌, ◌*◌, ◌/◌, ◌%◌, ◌^◌, ◌≤◌, Bool, nat_lt, nat_le, if◌then◌else◌, ℤ, pos, ◌+ℤ◌, unsigned_abs, bit_xor, List, Option, Some, None}
+use Rattle.std.specs.Prelude.{◌≡◌, ℕ, zero, suc, ◌+◌, ◌-◌, ◌*◌, ◌/◌, ◌%◌, ◌^◌, ◌<◌, ◌≤◌, Bool, nat_lt, nat_le, if◌then◌else◌, ℤ, pos, ◌+ℤ◌, ◌*ℤ◌, unsigned_abs, bit_xor, List, Option, Some, None}
 use Rattle.std.specs.Int.{int_rem_euclid}
 use Rattle.std.specs.List.{fold}
 use Rattle.pt_value.specs.declared.value.Value.{Value}
@@ -16,7 +16,12 @@ counted (Some number) = number
 abbrev pub hash_part : Option ℤ → ℕ → ℕ
 hash_part value n = unsigned_abs (counted value) % n
 
--- the residue of a number modulo m, which is never negative: that of -7 modulo 8 is 1
+-- r is the residue of a number modulo m: it lies below m, and a multiple of m away from the number
+pub record IsResidue (number : ℤ) (m r : ℕ) : Type 0 where
+  pub below : r < m
+  pub apart : (q : ℤ) × (number ≡ q *ℤ pos m +ℤ pos r)
+
+-- the one that is so, which is never negative: that of -7 modulo 8 is 1
 abbrev pub residue : ℤ → ℕ → ℕ
 residue number m = unsigned_abs (int_rem_euclid number (pos m))
 
