@@ -7,5 +7,6 @@ pub mod Cell
 pub mod Calendar
 pub mod Text
 pub mod Laws
+pub mod Hashes
 pub mod Digits
 pub mod Written
