@@ -4,7 +4,8 @@ use Rattle.std.proofs.lemmas.Grind.{common_steps}
 use Rattle.pt_host.specs.World.{World, after_take}
 use Rattle.pt_host.specs.World.{Takes}
 use Rattle.pt_engine.specs.declared.script.Script.{Script}
-use Rattle.pt_engine.specs.Input.{with_input, TakesOnly, TakesScript, TakesFront, TakesWithin}
+use Rattle.pt_engine.specs.Input.{with_input, TakesOnly, TakesScript, TakesFront}
+use Rattle.pt_engine.specs.Script.{TakesWithin}
 use Rattle.pt_engine.specs.Taking.{Takes as Feeds}
 use Rattle.pt_engine.proofs.TakingLemmas.{taken_within}
 

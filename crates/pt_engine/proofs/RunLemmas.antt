@@ -1,7 +1,7 @@
 -- A run: the directory is opened, the input taken, and its statements answered.
 use Rattle.pt_engine.specs.declared.ending.Ending.{Ending}
 use Rattle.pt_engine.specs.declared.ending.Ending.TheVariants.{Done, Usage, DiskFault, NoMemory, Damaged, InputFault, OutputFault, TooLong}
-use Rattle.std.proofs.Common.{◌≡◌, ◌⊎◌, inl, inr, ℕ, Bool, true, false, List, [], refl, ap, ◌∙◌, sym, subst, arith}
+use Rattle.std.proofs.Common.{◌≡◌, inl, inr, ℕ, Bool, true, false, List, [], refl, ap, ◌∙◌, sym, subst, arith}
 use Rattle.std.proofs.lemmas.List.{append-nil}
 use Rattle.std.proofs.lemmas.List.Elements.{All-nil}
 use Rattle.pt_host.specs.Disk.{Fs, Files, EachImage, IsAtRest, shown}
@@ -19,11 +19,12 @@ use Rattle.pt_host.specs.Counts.{Counts}
 use Rattle.pt_engine.specs.Causes.{IsCaused, NoneRose}
 use Rattle.pt_engine.specs.Answers.{AreFirst, ChangesNothing, HoldsAfter}
 use Rattle.pt_engine.specs.Kept.{HoldsIn, IsInOrder, KeepsInOrder, StandsAfter, StandsKeeping}
-use Rattle.pt_engine.specs.Script.{has_excess, statements}
+use Rattle.pt_engine.specs.Script.{has_excess, statements, TakesWithin}
 use Rattle.pt_engine.specs.Session.{StopsOpening}
-use Rattle.pt_engine.specs.Input.{StopsTaking, TakesOnly, TakesWithin}
+use Rattle.pt_engine.specs.Input.{StopsTaking, TakesOnly}
 use Rattle.pt_engine.specs.Saying.{StandsFirst}
-use Rattle.pt_engine.specs.Run.{IsComplete, IsRun, StandsAt, StandsTaken, TellsDamage}
+use Rattle.pt_engine.specs.Run.{IsComplete, StandsAt, TellsDamage}
+use Rattle.pt_engine.specs.Parts.{IsRun, StandsTaken}
 use Rattle.pt_engine.proofs.AnswerLemmas.{says_whole, says_up_to}
 
 -- a directory at rest holds in each image what it shows

@@ -1,16 +1,15 @@
 -- Statements that change nothing.
-use Rattle.std.proofs.Common.{◌≡◌, ℕ, ◌+◌, ◌<◌, Bool, true, false, cond, not, List, [], ◌∷◌, ◌++◌, length, take, get_or, refl, sym, ap, subst, ◌∙◌, All}
+use Rattle.std.proofs.Common.{◌≡◌, ℕ, ◌+◌, ◌<◌, Bool, true, false, cond, not, List, [], ◌∷◌, ◌++◌, length, take, refl, ap, ◌∙◌, All}
 use Rattle.std.proofs.lemmas.List.Elements.{All-head, All-tail}
-use Rattle.std.specs.Prelude.{Option, Some, None, is_some, unwrap_or, ◌==◌, nat_lt, nat_le, ◌^◌}
+use Rattle.std.specs.Prelude.{Option, Some, None, is_some, unwrap_or, ◌==◌}
 use Rattle.pt_flat.specs.declared.data.Db.{Db}
-use Rattle.pt_flat.specs.declared.data.Reply.{Reply}
 use Rattle.pt_flat.specs.declared.data.Stmt.{Stmt}
 use Rattle.pt_flat.specs.declared.data.Stmt.TheVariants.{Create, Insert, Select}
-use Rattle.pt_flat.specs.Step.{refusal, reply_to, after, changed, answer, has_table, is_int}
-use Rattle.pt_flat.specs.Answer.{answered, table_exists, no_such_table, out_of_range, serials_used}
-use Rattle.pt_flat.proofs.Pairs.{all_left, all_right}
+use Rattle.pt_flat.specs.Step.{refusal, reply_to, changed, answer, has_table}
+use Rattle.pt_flat.specs.Answer.{table_exists}
+use Rattle.pt_flat.proofs.Pairs.{all_right}
 use Rattle.pt_engine.specs.Reading.{Reads}
-use Rattle.pt_engine.specs.Answers.{AreFirst, ChangesNothing, IsReply, after_one, after_all, changes}
+use Rattle.pt_engine.specs.Answers.{AreFirst, ChangesNothing, after_one, after_all, changes}
 use Rattle.pt_engine.proofs.AnswerLemmas.{first_push}
 
 -- a statement that changes nothing leaves the database as it is

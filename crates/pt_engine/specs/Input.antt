@@ -5,7 +5,7 @@ use Rattle.pt_engine.specs.declared.script.Script.{Script}
 use Rattle.pt_engine.specs.declared.input.Taken.{Taken}
 use Rattle.pt_engine.specs.declared.ending.Ending.{Ending}
 use Rattle.pt_engine.specs.declared.ending.Ending.TheVariants.{NoMemory, InputFault}
-use Rattle.pt_engine.specs.Script.{has_excess, statements}
+use Rattle.pt_engine.specs.Script.{has_excess, statements, TakesWithin}
 use Rattle.pt_engine.specs.Taking.{IsTaken}
 
 -- with this much of the input still to come
@@ -15,12 +15,6 @@ with_input input w = record { dir = w.dir; input = input; now = w.now; moments =
 -- nothing but the input has changed
 abbrev pub TakesOnly : World → World → Type 0
 TakesOnly old new = new ≡ with_input new.input old
-
--- What was taken of the input, up to this rest of it, passes no limit.
-pub record TakesWithin (input rest : List ℕ) : Type 0 where
-  pub taken : List ℕ
-  pub is : input ≡ taken ++ rest
-  pub within : has_excess taken ≡ false
 
 -- the statements of the input, which was taken to its end where it keeps the limits
 pub record TakesScript (old new : World) (taken : Taken) : Type 0 where

@@ -11,3 +11,4 @@ pub mod Kept
 pub mod Session
 pub mod Saying
 pub mod Run
+pub mod Parts

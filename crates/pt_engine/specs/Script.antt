@@ -1,5 +1,5 @@
 -- A script is cut into pieces. Its statements are the pieces that aren't blank.
-use Rattle.std.specs.Prelude.{ℕ, ◌-◌, ◌^◌, Bool, cond, not, ◌||◌, ◌==◌, nat_le, nat_lt, List, [], ◌∷◌, ◌++◌, length, take, filter}
+use Rattle.std.specs.Prelude.{◌≡◌, false, ℕ, ◌-◌, ◌^◌, Bool, cond, not, ◌||◌, ◌==◌, nat_le, nat_lt, List, [], ◌∷◌, ◌++◌, length, take, filter}
 use Rattle.std.specs.List.{list_all, list_any, take_while}
 use Rattle.pt_engine.specs.Symbols.{is_white}
 
@@ -32,6 +32,12 @@ cuts script = take_while (λ piece. nat_le (length piece) most_piece) (cond (nat
 -- a limit is passed
 unfoldable pub has_excess : List ℕ → Bool
 has_excess script = nat_lt most_input (length script) || list_any (λ piece. nat_lt most_piece (length piece)) (pieces script)
+
+-- What was taken of the input, up to this rest of it, passes no limit.
+pub record TakesWithin (input rest : List ℕ) : Type 0 where
+  pub taken : List ℕ
+  pub is : input ≡ taken ++ rest
+  pub within : has_excess taken ≡ false
 
 -- white space alone
 abbrev pub is_blank : List ℕ → Bool

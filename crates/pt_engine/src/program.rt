@@ -10,7 +10,8 @@ ghost use Rattle.pt_engine.specs.Answers.{ChangesNothing};
 ghost use Rattle.pt_engine.specs.Script.{has_excess, statements};
 ghost use Rattle.pt_engine.specs.Kept.{HoldsIn, KeepsInOrder};
 ghost use Rattle.pt_engine.specs.Session.{IsOpen, IsSession};
-ghost use Rattle.pt_engine.specs.Run.{dir_of, AnswersTaken, IsComplete, IsRun, StandsAt, TellsDamage};
+ghost use Rattle.pt_engine.specs.Run.{dir_of, IsComplete, StandsAt, TellsDamage};
+ghost use Rattle.pt_engine.specs.Parts.{AnswersTaken, IsRun};
 
 use crate::Ending;
 use crate::answers::answer_all;

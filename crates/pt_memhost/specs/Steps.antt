@@ -1,5 +1,5 @@
 -- The steps of a call, in the shape of the code.
-use Rattle.std.specs.Prelude.{ℕ, ◌+◌}
+use Rattle.std.specs.Prelude.{◌+◌}
 use Rattle.pt_memhost.specs.declared.event.Event.{Event}
 use Rattle.pt_memhost.specs.declared.host.turns.Side.{Side}
 use Rattle.pt_memhost.specs.declared.host.turns.Side.TheVariants.{Disk, Input, Output}

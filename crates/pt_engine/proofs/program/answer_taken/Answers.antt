@@ -2,7 +2,7 @@ use Rattle.std.proofs.Common.{length, subst}
 use Rattle.pt_host.specs.World.{IsIdle}
 use Rattle.pt_engine.specs.Answers.{ChangesNothing}
 use Rattle.pt_engine.specs.Kept.{KeepsInOrder, StandsAfter}
-use Rattle.pt_engine.specs.Run.{StandsTaken}
+use Rattle.pt_engine.specs.Parts.{StandsTaken}
 use Rattle.pt_engine.proofs.SayingLemmas.{all_answered}
 use Rattle.pt_engine.proofs.RunLemmas.{stands_taken}
 use Rattle.pt_engine.proofs.program.answer_taken.Goals as goal
