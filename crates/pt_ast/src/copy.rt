@@ -1,8 +1,8 @@
 ghost use Rattle.std.specs.Prelude.{◌≡◌, IfOk};
 
 use crate::{
-    Bound, BoundTuple, Cells, Column, ColumnNos, Columns, Expr, Factors, Idents, KeyDef, KeyDefs,
-    PartBy, PartDef, Parts, Row, TableDef, Terms, Tuples,
+    Bound, BoundTuple, Column, ColumnNos, Columns, Expr, Factors, Idents, KeyDef, KeyDefs, PartBy,
+    PartDef, Parts, Row, TableDef, Terms, Tuples,
 };
 use pt_plain::Held;
 use pt_value::{Bin, Value};
@@ -44,17 +44,6 @@ impl Expr {
     }
 }
 
-/// An equal list of values.
-pub fn copy_cells(alloc: Global, cells: &Cells) -> Result<Cells, AllocError>
-    ensures { IfOk result (λ copied. copied ≡ cells.now) }
-{
-    let mut copied = Cells::new(alloc);
-    for value in cells.items() {
-        copied.push(value.copy(alloc)?)?;
-    }
-    Ok(copied)
-}
-
 impl Row {
     /// An equal row.
     pub fn copy(&self, alloc: Global) -> Result<Row, AllocError>
@@ -62,7 +51,7 @@ impl Row {
     {
         Ok(Row {
             serial: self.serial,
-            cells: copy_cells(alloc, &self.cells)?,
+            cells: self.cells.copy(alloc)?,
         })
     }
 }

@@ -1,10 +1,10 @@
-ghost use Rattle.std.specs.Prelude.{◌≡◌};
+ghost use Rattle.std.specs.Prelude.{◌≡◌, [], ◌∷◌, ◌++◌, IfOk, OnOk, OnErr};
 ghost use Rattle.pt_ast.specs.Rising.{NamesRise};
 
 use crate::TableDef;
 use pt_plain::List;
 use pt_value::{Ident, Value};
-use std::alloc::Global;
+use std::alloc::{AllocError, Global};
 use std::marker::Model;
 
 /// Where a row stands: the number of its partition, and of its subpartition in that. Both count from 0. An unpartitioned
@@ -15,8 +15,73 @@ pub struct Spot {
     pub sub: u32,
 }
 
-/// The values of a row, one a column.
-pub type Cells = List<Value>;
+/// The values of a row, one a column. Contracts see the list of them.
+#[derive(Drop)]
+pub struct Cells {
+    values: List<Value>,
+}
+
+impl Model for Cells {
+    ghost use Rattle.std.specs.Prelude.{List as Listed};
+    ghost use Rattle.std.specs.Coded.{coded_list};
+    ghost use Rattle.pt_value.specs.declared.value.Value.{Value as Cell};
+    ghost use Rattle.pt_value.specs.contracts.value.Value as cell;
+
+    ghost Value = { Listed Cell };
+
+    ghost coded = { coded_list cell.the_row.coded };
+
+    ghost view = { λ cells. cells.values };
+
+    ghost inverse = { λ cells. record { values = cells } };
+}
+
+impl Cells {
+    /// No values. It takes no memory.
+    pub fn new(alloc: Global) -> Cells
+        ensures { result ≡ [] }
+    {
+        Cells {
+            values: List::new(alloc),
+        }
+    }
+
+    /// These values. It takes no memory.
+    pub fn of(items: Vec<Value>) -> Cells
+        ensures { result ≡ items.items }
+    {
+        Cells {
+            values: List::of(items),
+        }
+    }
+
+    /// The values, lent. It takes no memory.
+    pub fn items(&self) -> &[Value]
+        ensures { result.now ≡ self.now }
+    {
+        self.values.items()
+    }
+
+    /// Adds a value at the end. Want of memory leaves the cells as they were.
+    pub fn push(&mut self, value: Value) -> Result<(), AllocError>
+        ensures ok { OnOk result (self.new ≡ self.old ++ value ∷ []) }
+        ensures err { OnErr result (self.new ≡ self.old) }
+    {
+        self.values.push(value)?;
+        Ok(())
+    }
+
+    /// Equal cells.
+    pub fn copy(&self, alloc: Global) -> Result<Cells, AllocError>
+        ensures { IfOk result (λ copied. copied ≡ self.now) }
+    {
+        let mut copied = List::new(alloc);
+        for value in self.values.items() {
+            copied.push(value.copy(alloc)?)?;
+        }
+        Ok(Cells { values: copied })
+    }
+}
 
 /// A row, with the serial number that it got when it was inserted.
 #[derive(Drop)]

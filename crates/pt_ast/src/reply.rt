@@ -1,24 +1,6 @@
 ghost use Rattle.std.specs.Prelude.{◌≡◌};
 
-use pt_value::{Bin, Ident};
-
-/// What a refusal is about.
-#[derive(Clone, Copy)]
-pub enum Arg {
-    Name(Ident),
-    Number(u64),
-    /// The primary key, printed `PRIMARY`.
-    Primary,
-    /// `KEY` without columns, printed `KEY`.
-    Key,
-}
-
-/// Why a statement is refused.
-#[derive(Clone, Copy)]
-pub struct Refusal {
-    pub code: u8,
-    pub arg: Arg,
-}
+use pt_value::Bin;
 
 /// What a statement answers: whole lines of text, and the code of its refusal, 0 where it isn't refused.
 #[derive(Drop)]

@@ -2,13 +2,13 @@ use crate::answers::split;
 use crate::cells::{cells_of, put_cells};
 use crate::text::{bytes_of, put_line, put_word};
 use crate::trees::{expr_of, put_expr};
-use pt_ast::{Reply, Row, Table, Tables, copy_cells};
+use pt_ast::{Reply, Row, Table, Tables};
 use pt_value::Bin;
 use std::alloc::{AllocError, Global};
 
 /// Writes a copy of values.
 pub fn put_cells_copy(alloc: Global, out: &mut String, text: &str) -> Result<(), AllocError> {
-    let copied = copy_cells(alloc, &cells_of(alloc, text)?)?;
+    let copied = cells_of(alloc, text)?.copy(alloc)?;
     put_cells(out, &copied)
 }
 

@@ -1,5 +1,5 @@
 use Rattle.std.proofs.Common.{◌≡◌, take}
-use Rattle.pt_ast.proofs.copy.copy_cells.Given as goal
+use Rattle.pt_ast.proofs.database.Cells.copy.Given as goal
 
 abbrev pub invariant-loop-value : goal.invariant-loop-value
 invariant-loop-value l = l.copied ≡ take l.value-index l.value-items
