@@ -12,9 +12,9 @@ use Rattle.pt_token.specs.declared.token.TokenKind.TheVariants as kind
 use Rattle.pt_parse_expr.specs.declared.alphabet.Mark.{Mark}
 use Rattle.pt_parse_expr.specs.declared.alphabet.Mark.TheVariants.{Open, Close}
 use Rattle.pt_parse_expr.specs.declared.alphabet.Symbol.TheVariants.{Fixed}
-use Rattle.pt_parse_expr.specs.declared.words.TheConstants.{RESERVED}
+use Rattle.pt_parse_expr.specs.Words.{reserved_words}
 use Rattle.pt_parse_expr.specs.Limits.{open_after}
-use Rattle.pt_parse_expr.specs.Symbols.{lookup, marked, reserved, sign, symbol_of}
+use Rattle.pt_parse_expr.specs.Symbols.{lookup, marked, mark_of_sign, reserved, symbol_of}
 
 abbrev is_no_paren : Mark → Bool
 is_no_paren Open = false
@@ -37,7 +37,7 @@ looked_up p (entry ∷ table) word a each e = go (str_eq_ignore_ascii_case entry
 
 word_stays_open : (bytes : List ℕ) (height : ℕ) → open_after (marked (reserved bytes) bytes) height ≡ height
 unfolding reserved
-word_stays_open bytes height = go (reserved bytes) (λ mark found. looked_up is_no_paren (map (λ k. (k.0.now, k.1)) RESERVED) bytes mark refl found)
+word_stays_open bytes height = go (reserved bytes) (λ mark found. looked_up is_no_paren reserved_words bytes mark refl found)
   where
     go : (o : Option Mark) → ((mark : Mark) → o ≡ Some mark → is_no_paren mark ≡ true) → open_after (marked o bytes) height ≡ height
     go None h = refl
@@ -52,11 +52,11 @@ not_a_sign (kind.Text text) bytes height other = refl
 not_a_sign (kind.Hex text) bytes height other = refl
 not_a_sign kind.Sign bytes height other = absurd (other refl)
 
-are_signs : All (λ s. is_some (sign s) ≡ true) signs
-unfolding sign lookup
-are_signs = AllPass-from_list_all (λ s. is_some (sign s)) signs refl
+are_signs : All (λ s. is_some (mark_of_sign s) ≡ true) signs
+unfolding mark_of_sign lookup
+are_signs = AllPass-from_list_all (λ s. is_some (mark_of_sign s)) signs refl
 
 -- a sign has a mark
-pub has_mark : (bytes : List ℕ) → Contains signs bytes → sign bytes ≡ None → ⊥
+pub has_mark : (bytes : List ℕ) → Contains signs bytes → mark_of_sign bytes ≡ None → ⊥
 has_mark bytes h none =
-    let bad : false ≡ true = ap is_some (sym none) ∙ All-contains (λ s. is_some (sign s) ≡ true) signs bytes are_signs h in cc
+    let bad : false ≡ true = ap is_some (sym none) ∙ All-contains (λ s. is_some (mark_of_sign s) ≡ true) signs bytes are_signs h in cc

@@ -1,15 +1,14 @@
--- What the reading of a piece's symbols, from a place on, says of the piece.
-use Rattle.std.proofs.Common.{◌≡◌, ℕ, ◌<◌, ◌≤◌, ◌^◌, List, [], length, drop, slice_range, Some, None, Result, Ok, Err, IfOk, arith, length-drop, length-take, ◌-◌}
+-- What the reading of symbols, from a place on, says of the symbols.
+use Rattle.std.proofs.Common.{◌≡◌, ℕ, ◌+◌, ◌<◌, ◌≤◌, ◌^◌, List, [], length, drop, slice_range, Option, Some, None, Result, Ok, Err, IfOk, arith, length-drop, length-take, ◌-◌}
+use Rattle.std.specs.declared.alloc.AllocError.{AllocError}
 use Rattle.pt_ast.specs.declared.tree.Expr.{Expr}
 use Rattle.pt_ast.specs.declared.tree.Cond.{Cond}
 use Rattle.pt_ast.specs.StorableExpr.{IsStorableExpr}
 use Rattle.pt_ast.specs.StorableCond.{IsStorableCond}
-use Rattle.pt_token.specs.declared.token.Token.{Token}
-use Rattle.pt_token.specs.Tokens.{IsLexed}
-use Rattle.pt_parse_expr.specs.Symbols.{symbols}
 use Rattle.pt_parse_expr.specs.Grammar.{Symbols, IsExpr, IsCond}
-use Rattle.pt_parse_expr.specs.Limits.{IsDeep, IsShallow}
-use Rattle.pt_parse_expr.specs.Spelling.{SpellsExpr, SpellsCond, IsLongest, IsUnspelled}
+use Rattle.pt_parse_expr.specs.Limits.{AreStorable, IsDeep, IsShallow}
+use Rattle.pt_parse_expr.specs.Spelling.{SpellsExpr, SpellsCond, GivesLongest, IfRead, IsLongest, IsUnspelled}
+use Rattle.pt_parse_expr.specs.Placing.{Reads, Reaches}
 use Rattle.pt_parse_expr.specs.Reader.{sum, either, found, as_cond}
 use Rattle.pt_parse_expr.proofs.Shallow.{shallow, shallow-drop}
 use Rattle.pt_parse_expr.proofs.Sound.{expr-sound, cond-sound}
@@ -18,7 +17,6 @@ use Rattle.pt_parse_expr.proofs.Levels.{sum_on, cond_on}
 use Rattle.pt_parse_expr.proofs.Complete.{expr-covers, cond-covers}
 use Rattle.pt_parse_expr.proofs.Places.{extended, longest, unspelled}
 use Rattle.pt_parse_expr.proofs.Storing.{Within, within-drop, expr-within, cond-within}
-use Rattle.pt_parse_expr.proofs.StorableSymbols.{symbols-storable, symbols-count}
 
 -- no symbols spell nothing, so nothing is spelled from a place behind the end
 module _ {A : Type 0} (R : Symbols → A → Symbols → Type 0) (eats : (ts rest : Symbols) (x : A) → R ts x rest → length rest < length ts) (ts : Symbols) (at : ℕ) where
@@ -52,17 +50,31 @@ module _ (ts : Symbols) (at : ℕ) (level : IsDeep ts → ⊥) where
       unspelled IsCond (λ us rest y. cond-framed) cond_on ts at (as_cond (either (found 64) (drop at ts))) (cond-sound 64 (drop at ts))
       (λ y rest d. cond-covers d 64 64 0 (omega arith) room) is
 
--- ---- what is read of a piece is storable
+  -- ---- what a call gives
 
-module _ (piece : List ℕ) (tokens : List Token) (at next : ℕ) (lexed : IsLexed piece tokens) (small : length piece ≤ 2 ^ 20) (level : IsDeep (symbols piece tokens) → ⊥) where
-  abbrev room_behind : Within 64 (drop at (symbols piece tokens))
-  room_behind = within-drop at (symbols piece tokens) (shallow (symbols piece tokens) level) (omega (arith, symbols-count lexed)) (symbols-storable lexed small)
+  pub expr-given : (r : Result (Option (Expr × ℕ)) AllocError) → Reads ts r (sum (found 64) (drop at ts)) → Reaches (at + 1) ts r → GivesLongest SpellsExpr ts at r
+  expr-given (Ok None) is place = expr-unspelled is
+  expr-given (Ok (Some p)) is place = expr-longest p.0 p.1 is (omega (arith, place.0)) place.1
+  expr-given (Err e) is place = tt
 
-  pub expr-stored : (x : Expr) → IsLongest SpellsExpr (symbols piece tokens) at x next → IsStorableExpr x
-  expr-stored x l = expr-within (extended IsExpr (λ us rest y. expr-framed) (symbols piece tokens) at next x l.within.0 l.spelled) room_behind
+  pub cond-given : (r : Result (Option (Cond × ℕ)) AllocError) → Reads ts r (as_cond (either (found 64) (drop at ts))) → Reaches (at + 1) ts r → GivesLongest SpellsCond ts at r
+  cond-given (Ok None) is place = cond-unspelled is
+  cond-given (Ok (Some p)) is place = cond-longest p.0 p.1 is (omega (arith, place.0)) place.1
+  cond-given (Err e) is place = tt
 
-  pub cond-stored : (x : Cond) → IsLongest SpellsCond (symbols piece tokens) at x next → IsStorableCond x
-  cond-stored x l = cond-within (extended IsCond (λ us rest y. cond-framed) (symbols piece tokens) at next x l.within.0 l.spelled) room_behind
+  module _ (all : AreStorable ts) where
+    abbrev room_from : Within 64 (drop at ts)
+    room_from = within-drop at ts (shallow ts level) all.few all.each
+
+    pub expr-kept : (r : Result (Option (Expr × ℕ)) AllocError) → GivesLongest SpellsExpr ts at r → IfRead IsStorableExpr r
+    expr-kept (Ok None) l = tt
+    expr-kept (Ok (Some p)) l = expr-within (extended IsExpr (λ us rest y. expr-framed) ts at p.1 p.0 l.within.0 l.spelled) room_from
+    expr-kept (Err e) l = tt
+
+    pub cond-kept : (r : Result (Option (Cond × ℕ)) AllocError) → GivesLongest SpellsCond ts at r → IfRead IsStorableCond r
+    cond-kept (Ok None) l = tt
+    cond-kept (Ok (Some p)) l = cond-within (extended IsCond (λ us rest y. cond-framed) ts at p.1 p.0 l.within.0 l.spelled) room_from
+    cond-kept (Err e) l = tt
 
 -- what holds where it succeeded
 pub if_ok_then : {A E : Type 0} {P Q : A → Type 0} (r : Result A E) → ((x : A) → P x → Q x) → IfOk r P → IfOk r Q

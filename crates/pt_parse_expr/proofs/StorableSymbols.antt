@@ -11,7 +11,7 @@ use Rattle.pt_token.specs.Tokens.{IsLexed}
 use Rattle.pt_token.proofs.Sizes.{IsNoLonger, no_more_tokens, no_longer_texts}
 use Rattle.pt_parse_expr.specs.declared.alphabet.Mark.{Mark}
 use Rattle.pt_parse_expr.specs.Symbols.{marked, reserved, symbol, symbol_of, symbols}
-use Rattle.pt_parse_expr.proofs.Storing.{IsStorableSymbol, AreStorableSymbols}
+use Rattle.pt_parse_expr.specs.Limits.{IsStorableSymbol, AreStorableSymbols, AreStorable}
 
 marked-storable : (mark : Option Mark) (bytes : List ℕ) → IsStorableSymbol (marked mark bytes)
 marked-storable None bytes = tt
@@ -40,3 +40,6 @@ symbols-storable {piece} {tokens} d few =
 pub symbols-count : {piece : List ℕ} {tokens : List Token} → IsLexed piece tokens → length (symbols piece tokens) ≤ length piece
 unfolding symbols
 symbols-count {piece} {tokens} d = omega (arith, length-map tokens (symbol piece), no_more_tokens d)
+
+pub storable : {piece : List ℕ} {tokens : List Token} → IsLexed piece tokens → length piece ≤ 2 ^ 20 → AreStorable (symbols piece tokens)
+storable d few = record { few = omega (arith, symbols-count d, few); each = symbols-storable d few }

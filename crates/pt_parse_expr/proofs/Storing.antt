@@ -6,7 +6,7 @@ use Rattle.std.proofs.lemmas.List.Elements.{All-drop, All-from_recursion, recurs
 use Rattle.pt_ast.specs.declared.tree.Op.{Op}
 use Rattle.pt_ast.specs.declared.tree.Expr.{Expr}
 use Rattle.pt_ast.specs.declared.tree.Cond.{Cond}
-use Rattle.pt_ast.specs.Storable.{IsCounted, IsNotNegative}
+use Rattle.pt_ast.specs.Storable.{IsCounted}
 use Rattle.pt_ast.specs.StorableExpr.{IsStorableExpr}
 use Rattle.pt_ast.specs.StorableCond.{IsStorableCond}
 use Rattle.pt_parse_expr.specs.declared.alphabet.Mark.TheVariants.{Open}
@@ -14,23 +14,12 @@ use Rattle.pt_parse_expr.specs.declared.alphabet.Symbol.{Symbol}
 use Rattle.pt_parse_expr.specs.declared.alphabet.Symbol.TheVariants.{Fixed, Number, Text, Hex}
 use Rattle.pt_parse_expr.specs.Grammar.{Symbols, Terms, Factors, sum_of, product_of, and_of, or_of, IsSign, IsOp, IsExpr, sum, AreTerms, no_term, term, IsTerm, product, AreFactors, no_factor, factor, IsFactor, bare, positive, negative, IsPrimary, number, text, hex, date, null, word, quoted, call, call_mod, parens, AreMore, no_more, more, IsNegation, without, with_not, IsCond, or, AreConjs, no_conj, conj, IsConj, and, AreNegs, no_neg, neg, IsNeg, plain, negated, IsTest, in_parens, compare, is_null, is_in, between}
 use Rattle.pt_parse_expr.specs.Limits.{IsShallow, open_after}
+pub use Rattle.pt_parse_expr.specs.Limits.{IsStorableSymbol, AreStorableSymbols}
 use Rattle.pt_parse_expr.proofs.Eats.{Eats, IsPlain, one, sign-eats, op-eats, term-eats, factor-eats, expr-eats, conj-eats, neg-eats, cond-eats}
 use Rattle.pt_parse_expr.proofs.Frame.{expr-framed, cond-framed}
 use Rattle.pt_parse_expr.proofs.Room.{Room, room-after}
 use Rattle.pt_parse_expr.proofs.ExprNodes.{Fits, AllFit, deeper, number-fits, text-fits, hex-fits, date-fits, null-fits, column-fits, neg-fits, call-fits, sum-fits, product-fits}
 use Rattle.pt_parse_expr.proofs.CondNodes.{AreStorableConds, or-storable, and-storable, not-storable, compare-storable, null-storable, in-storable, between-storable}
-
--- ---- symbols
-
--- a number isn't negative, and a text has fewer than 2^32 bytes
-abbrev pub IsStorableSymbol : Symbol → Type 0
-IsStorableSymbol (Number n) = IsNotNegative n
-IsStorableSymbol (Text bytes) = IsCounted bytes
-IsStorableSymbol (Hex bytes) = IsCounted bytes
-IsStorableSymbol _ = Unit {0}
-
-abbrev pub AreStorableSymbols : Symbols → Type 0
-AreStorableSymbols ts = All (λ s. IsStorableSymbol s) ts
 
 -- fewer than 2^32 symbols that are storable, and that open so many parentheses more, 64 at most
 pub record Within (room : ℕ) (ts : Symbols) : Type 0 where

@@ -1,3 +1,4 @@
+pub mod Words
 pub mod Symbols
 pub mod Grammar
 pub mod Spelling

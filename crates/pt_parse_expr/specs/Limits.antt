@@ -1,12 +1,13 @@
--- How deep the parentheses of symbols nest, and how long the names of tokens are.
-use Rattle.std.specs.Prelude.{ℕ, suc, pred, ◌-◌, ◌<◌, ◌≤◌, List, [], ◌∷◌, take, Any}
+-- How deep the parentheses of symbols nest, how long the names of tokens are, and which symbols are storable.
+use Rattle.std.specs.Prelude.{ℕ, suc, pred, ◌-◌, ◌<◌, ◌≤◌, List, [], ◌∷◌, take, All, Any}
 use Rattle.std.specs.List.{fold}
+use Rattle.pt_ast.specs.Storable.{IsCounted, IsNotNegative}
 use Rattle.pt_token.specs.declared.token.Token.{Token}
 use Rattle.pt_token.specs.declared.token.TokenKind.{TokenKind}
 use Rattle.pt_token.specs.declared.token.TokenKind.TheVariants as kind
 use Rattle.pt_parse_expr.specs.declared.alphabet.Mark.TheVariants.{Open, Close}
 use Rattle.pt_parse_expr.specs.declared.alphabet.Symbol.{Symbol}
-use Rattle.pt_parse_expr.specs.declared.alphabet.Symbol.TheVariants.{Fixed}
+use Rattle.pt_parse_expr.specs.declared.alphabet.Symbol.TheVariants.{Fixed, Number, Text, Hex}
 use Rattle.pt_parse_expr.specs.Grammar.{Symbols}
 
 -- how many parentheses are open behind a symbol, never below none
@@ -37,3 +38,18 @@ name_length _ length = 0
 -- a name has more than 64 characters
 abbrev pub IsLong : List Token → Type 0
 IsLong tokens = Any (λ token. 64 < name_length token.kind (token.to - token.from)) tokens
+
+-- a number isn't negative, and a text has fewer than 2^32 bytes
+abbrev pub IsStorableSymbol : Symbol → Type 0
+IsStorableSymbol (Number n) = IsNotNegative n
+IsStorableSymbol (Text bytes) = IsCounted bytes
+IsStorableSymbol (Hex bytes) = IsCounted bytes
+IsStorableSymbol _ = Unit {0}
+
+abbrev pub AreStorableSymbols : Symbols → Type 0
+AreStorableSymbols symbols = All (λ s. IsStorableSymbol s) symbols
+
+-- fewer than 2^32 such symbols: what they spell is storable, where they aren't deep
+pub record AreStorable (symbols : Symbols) : Type 0 where
+  pub few : IsCounted symbols
+  pub each : AreStorableSymbols symbols

@@ -1,5 +1,6 @@
 -- What symbols spell, and the longest reading from a place on.
-use Rattle.std.specs.Prelude.{◌≡◌, ◌≤◌, ℕ, [], length, slice_range}
+use Rattle.std.specs.Prelude.{◌≡◌, ◌≤◌, ℕ, [], length, slice_range, IfOk, IfSome, Option, Some, None, Result, Ok, Err}
+use Rattle.std.specs.declared.alloc.AllocError.{AllocError}
 use Rattle.pt_ast.specs.declared.tree.Expr.{Expr}
 use Rattle.pt_ast.specs.declared.tree.Cond.{Cond}
 use Rattle.pt_parse_expr.specs.declared.fault.ParseFault.{ParseFault}
@@ -29,6 +30,17 @@ IsReadFault spells symbols at Syntax = IsUnspelled spells symbols at
 IsReadFault spells symbols at NoMemory = Unit {0}
 IsReadFault spells symbols at TooDeep = ⊥
 IsReadFault spells symbols at LongName = ⊥
+
+-- A call that reads from `at` on gave the longest spelling with the place after it, or None exactly where nothing is spelled
+-- there. Nothing is said where memory ran out.
+abbrev pub GivesLongest : {A : Type 0} → (Symbols → A → Type 0) → Symbols → ℕ → Result (Option (A × ℕ)) AllocError → Type 0
+GivesLongest spells symbols at (Ok (Some p)) = IsLongest spells symbols at p.0 p.1
+GivesLongest spells symbols at (Ok None) = IsUnspelled spells symbols at
+GivesLongest spells symbols at (Err e) = Unit {0}
+
+-- a fact on what was read, if anything was
+abbrev pub IfRead : {A : Type 0} → (A → Type 0) → Result (Option (A × ℕ)) AllocError → Type 0
+IfRead P result = IfOk result (λ o. IfSome o (λ p. P p.0))
 
 -- No symbols spell two expressions, and none two conditions.
 pub record OneReading : Type 0 where

@@ -1,8 +1,8 @@
-ghost use Rattle.std.specs.Prelude.{◌≡◌, ◌-◌, ◌≤◌, length, Contains, IfOk, Some};
+ghost use Rattle.std.specs.Prelude.{◌≡◌, ◌-◌, ◌^◌, ◌≤◌, length, Contains, IfOk, Some};
 ghost use Rattle.pt_token.specs.Placed.{AreQuoted, AreWordBytes, IsPlaced, signs};
 ghost use Rattle.pt_token.specs.Tokens.{IsLexed};
 ghost use Rattle.pt_token.specs.declared.token.TokenKind.TheVariants as kind;
-ghost use Rattle.pt_parse_expr.specs.Limits.{IsLong, name_length};
+ghost use Rattle.pt_parse_expr.specs.Limits.{AreStorable, IsLong, name_length};
 ghost use Rattle.pt_parse_expr.specs.Symbols as spec;
 
 use crate::alphabet::{Mark, Symbol};
@@ -18,7 +18,8 @@ use std::alloc::{AllocError, Global};
 pub fn symbols(alloc: Global, piece: &[u8], tokens: &[Token]) -> Result<Vec<Symbol>, AllocError>
     requires lexed { IsLexed piece.now tokens.now }
     requires short { IsLong tokens.now → ⊥ }
-    ensures { IfOk result (λ v. v.items ≡ spec.symbols piece.now tokens.now) }
+    ensures symbols { IfOk result (λ v. v.items ≡ spec.symbols piece.now tokens.now) }
+    ensures storable { length piece.now ≤ 2 ^ 20 → IfOk result (λ v. AreStorable v.items) }
 {
     let mut symbols = Vec::new(alloc);
     for token in tokens {
@@ -81,7 +82,7 @@ fn name(bytes: &[u8]) -> Ident
 /// The mark of bytes that are a sign.
 fn sign(bytes: &[u8]) -> Mark
     requires { Contains signs bytes.now }
-    ensures { Some result ≡ spec.sign bytes.now }
+    ensures { Some result ≡ spec.mark_of_sign bytes.now }
 {
     match words::sign(bytes) {
         Some(mark) => mark,

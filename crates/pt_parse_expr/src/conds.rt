@@ -296,10 +296,23 @@ impl<F: Fn(Global, &[Symbol], usize, usize) -> Reading<Found>> Grammar<F> {
         let (first, (more, next)) = beside(first, self.conjunctions(symbols, at))?;
         Ok((Found::Test(or_of(first, more)?), next))
     }
+
+    /// A condition.
+    pub(crate) fn condition(&self, symbols: &[Symbol], at: usize) -> Reading<Cond>
+        requires nests { Nests self.now.depth (F.pre self.now.inner) (F.post self.now.inner) }
+        requires within { at ≤ length symbols.now }
+        ensures reads { Reads symbols.now result (spec.as_cond (spec.either (spec.found self.now.depth) (drop at symbols.now))) }
+        ensures place { Reaches (at + 1) symbols.now result }
+    {
+        match self.either(symbols, at)? {
+            None => Ok(None),
+            Some((found, next)) => Ok(cond_at(found, next)),
+        }
+    }
 }
 
 /// The condition, where it is one.
-pub(crate) fn cond_at(found: Found, at: usize) -> Option<(Cond, usize)>
+fn cond_at(found: Found, at: usize) -> Option<(Cond, usize)>
     ensures { result ≡ cond_at found at }
 {
     match found {

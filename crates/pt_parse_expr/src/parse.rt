@@ -2,7 +2,7 @@ ghost use Rattle.std.specs.Prelude.{◌≡◌, ◌^◌, ◌≤◌, length, IfOk,
 ghost use Rattle.pt_ast.specs.StorableCond.{IsStorableCond};
 ghost use Rattle.pt_ast.specs.StorableExpr.{IsStorableExpr};
 ghost use Rattle.pt_token.specs.Tokens.{IsLexed};
-ghost use Rattle.pt_parse_expr.specs.Limits.{IsDeep, IsLong};
+ghost use Rattle.pt_parse_expr.specs.Limits.{AreStorable, IsDeep, IsLong};
 ghost use Rattle.pt_parse_expr.specs.Spelling.{IsLongest, IsReadFault, SpellsCond, SpellsExpr};
 ghost use Rattle.pt_parse_expr.specs.Symbols.{symbols};
 
@@ -37,8 +37,10 @@ pub fn expr(
 
 fn longest_expr(alloc: Global, symbols: &[Symbol], at: usize) -> Result<(Expr, usize), ParseFault>
     requires shallow { IsDeep symbols.now → ⊥ }
+    requires storable { AreStorable symbols.now }
     ensures longest { IfOk result (λ p. IsLongest SpellsExpr symbols.now at p.0 p.1) }
     ensures fault { IfErr result (IsReadFault SpellsExpr symbols.now at) }
+    ensures storable { IfOk result (λ p. IsStorableExpr p.0) }
 {
     if at > symbols.len() {
         return Err(ParseFault::Syntax);
@@ -73,8 +75,10 @@ pub fn cond(
 
 fn longest_cond(alloc: Global, symbols: &[Symbol], at: usize) -> Result<(Cond, usize), ParseFault>
     requires shallow { IsDeep symbols.now → ⊥ }
+    requires storable { AreStorable symbols.now }
     ensures longest { IfOk result (λ p. IsLongest SpellsCond symbols.now at p.0 p.1) }
     ensures fault { IfErr result (IsReadFault SpellsCond symbols.now at) }
+    ensures storable { IfOk result (λ p. IsStorableCond p.0) }
 {
     if at > symbols.len() {
         return Err(ParseFault::Syntax);

@@ -123,9 +123,9 @@ pub(crate) fn reserved(word: &[u8]) -> Option<Mark>
 }
 
 /// The mark of a sign.
-#[tactic(auto, unfolding(crate::specs::Symbols::sign))]
+#[tactic(auto, unfolding(crate::specs::Symbols::mark_of_sign))]
 pub(crate) fn sign(bytes: &[u8]) -> Option<Mark>
-    ensures { result ≡ spec.sign bytes.now }
+    ensures { result ≡ spec.mark_of_sign bytes.now }
 {
     lookup(&SIGNS, bytes)
 }

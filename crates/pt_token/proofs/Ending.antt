@@ -7,7 +7,7 @@ use Rattle.pt_token.specs.declared.state.State.{State}
 use Rattle.pt_token.specs.declared.state.State.TheVariants.{Plain, Quote, Escaped, Line, Block, Star, Read, ReadStar, ReadQuote, ReadEscaped}
 use Rattle.pt_token.specs.Bytes.{is_quote}
 use Rattle.pt_token.specs.Machine.{is_plain, closing, from_read}
-use Rattle.pt_token.specs.Ends.{line_end, quote_end, comment_end, read_end, is_close}
+use Rattle.pt_token.specs.Ends.{line_end, quote_end, comment_end, read_end, closes_comment}
 use Rattle.pt_token.proofs.Loops.{moved, moved-one, moved-zero, suc-moved}
 
 pub line-ends : (bytes : List ℕ) → closing Line bytes ≡ line_end bytes
@@ -110,7 +110,7 @@ no_star b quote = elim (cases_Bool (b == 42)) [
 ]
 
 read-byte : (b : ℕ) (bytes : List ℕ) → closing Read (b ∷ bytes)
-    ≡ cond (is_close b bytes) (Some 2) (cond (is_quote b) (option_map suc (closing (ReadQuote b) bytes)) (option_map suc (closing Read bytes)))
+    ≡ cond (closes_comment b bytes) (Some 2) (cond (is_quote b) (option_map suc (closing (ReadQuote b) bytes)) (option_map suc (closing Read bytes)))
 unfolding closing
 read-byte b bytes = by_quote (is_quote b) (b == 42) (slice_index bytes 0 == 47) b bytes (no_star b) (read-star bytes)
 
@@ -124,8 +124,8 @@ read-ends [] zero = refl
 read-ends [] (suc passed) = refl
 read-ends (b ∷ bytes) (suc passed) = ap (option_map suc) (read-ends bytes passed) ∙ suc-moved passed (closing Read (drop passed bytes))
 read-ends (b ∷ bytes) zero =
-    ap (λ end. cond (is_close b bytes) (Some 2) (cond (is_quote b) (option_map suc end) (option_map suc (read_end zero bytes))))
+    ap (λ end. cond (closes_comment b bytes) (Some 2) (cond (is_quote b) (option_map suc end) (option_map suc (read_end zero bytes))))
     (same-then (λ n. read_end n bytes) (read-behind bytes) (read-ends bytes) (quote_end b false bytes) ∙ sym (read-quote b false bytes))
-    ∙ ap (λ end. cond (is_close b bytes) (Some 2) (cond (is_quote b) (option_map suc (closing (ReadQuote b) bytes)) (option_map suc end))) (read-ends bytes zero ∙ sym (moved-zero (closing Read bytes)))
+    ∙ ap (λ end. cond (closes_comment b bytes) (Some 2) (cond (is_quote b) (option_map suc (closing (ReadQuote b) bytes)) (option_map suc end))) (read-ends bytes zero ∙ sym (moved-zero (closing Read bytes)))
     ∙ sym (read-byte b bytes)
     ∙ moved-zero (closing Read (b ∷ bytes))

@@ -3,7 +3,10 @@ pub mod Blanks
 pub mod Steps
 pub mod Feeding
 pub mod BlankTokens
+pub mod OneLexing
 pub mod Ending
+pub mod Texts
+pub mod Passing
 pub mod Opening
 pub mod Cutting
 pub mod Parting

@@ -5,7 +5,7 @@ use Rattle.std.specs.List.{list_all, take_while}
 use native.Mathlib.Numerals.{one-add}
 use Rattle.pt_token.specs.declared.state.State.TheVariants.{Plain}
 use Rattle.pt_token.specs.Machine.{is_cut, run}
-use Rattle.pt_token.specs.Pieces.{closed, cuts, fits, most_piece, most_script, pieces, pieces_after}
+use Rattle.pt_token.specs.Pieces.{closed_pieces, cuts, fits, most_piece, most_script, pieces, pieces_after}
 use Rattle.pt_token.specs.Splitting.{next_cut, piece_after}
 use Rattle.pt_token.specs.Laws.{fed_pieces, unread}
 use Rattle.pt_token.proofs.Feeding.{pieces-fed}
@@ -34,7 +34,7 @@ while_first p (x ∷ xs) y ys e f = let h = both (p x) (list_all p xs) e in whil
 
 cuts_within : (script : List ℕ) → length script ≤ most_script → cuts script ≡ take_while fits (pieces script)
 unfolding cuts
-cuts_within script short = ap (λ t. take_while fits (cond t (pieces script) (closed (take most_script script)))) (short_fits (length script) most_script short)
+cuts_within script short = ap (λ t. take_while fits (cond t (pieces script) (closed_pieces (take most_script script)))) (short_fits (length script) most_script short)
 
 -- the first piece has at least the bytes that it begins with
 record HasFirst (front : List ℕ) (all : List (List ℕ)) : Type 0 where

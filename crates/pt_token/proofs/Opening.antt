@@ -10,10 +10,10 @@ use Rattle.pt_token.specs.declared.bytes.Class.TheVariants.{Digit}
 use Rattle.pt_token.specs.declared.state.State.{State}
 use Rattle.pt_token.specs.declared.state.State.TheVariants.{Opened, Block, Star, Version, Read}
 use Rattle.pt_token.specs.declared.comment.Comment.TheVariants.{Plain as Skipped, Read as IsRead, Malformed}
-use Rattle.pt_token.specs.Bytes.{is_digit, is_in, front}
+use Rattle.pt_token.specs.Bytes.{digits_number, is_digit, is_in, front}
 use Rattle.pt_token.specs.Machine.{closing, is_plain, from_block, from_read}
 use Rattle.pt_token.specs.Ends.{comment_end}
-use Rattle.pt_token.specs.Gap.{opened_end, kind, number, end_of, by_digits}
+use Rattle.pt_token.specs.Gap.{opened_end, kind, end_of, by_digits}
 use Rattle.pt_token.specs.Laws.{IsLeftAtEnds}
 use Rattle.pt_token.proofs.Loops.{moved-zero, suc-moved}
 use Rattle.pt_token.proofs.Ending.{line-ends, quote-ends, comment-ends, read-behind, read-ends}
@@ -184,10 +184,10 @@ limit k = elim (cases_Bool (nat_le k 50799)) [
   | inr e ↦ lt-leb (100000 + k) 150799 (omega (arith, leb-false k 50799 e)) ∙ sym e
 ]
 
-five-test : (ds : List ℕ) → length ds ≡ 5 → nat_le (shifted 1 ds) 150799 ≡ nat_le (number ds) 50799
+five-test : (ds : List ℕ) → length ds ≡ 5 → nat_le (shifted 1 ds) 150799 ≡ nat_le (digits_number ds) 50799
 five-test ds five =
-    let sum : shifted 1 ds ≡ 100000 + number ds = shifted-sum ds 1 0 ∙ ap (λ k. least k 1 + number ds) five in
-    ap (λ k. nat_le k 150799) sum ∙ limit (number ds)
+    let sum : shifted 1 ds ≡ 100000 + digits_number ds = shifted-sum ds 1 0 ∙ ap (λ k. least k 1 + digits_number ds) five in
+    ap (λ k. nat_le k 150799) sum ∙ limit (digits_number ds)
 
 -- the end by what the digits say
 skipped : (b : ℕ) (bytes : List ℕ) → (b == 42) ≡ false → option_map suc (closing Block bytes) ≡ comment_end (b ∷ bytes)
@@ -202,18 +202,18 @@ digits-end b bytes ds other = elim (cases_Bool (length ds == 0)) [
   | inl none ↦ ap (λ v. option_map suc (behind-digits (v || (length ds == 5 && nat_le (shifted 1 ds) 150799)) (length ds) bytes)) none
       ∙ ap (λ k. option_map suc (read-behind bytes k)) (eqb-true (length ds) 0 none)
       ∙ ap (option_map suc) (sym (read-ends bytes 0))
-      ∙ ap (λ v. end_of (cond v (IsRead 1) (cond (length ds == 5) (cond (nat_le (number ds) 50799) (IsRead 6) Skipped) Malformed)) (b ∷ bytes)) (sym none)
+      ∙ ap (λ v. end_of (cond v (IsRead 1) (cond (length ds == 5) (cond (nat_le (digits_number ds) 50799) (IsRead 6) Skipped) Malformed)) (b ∷ bytes)) (sym none)
   | inr some ↦ ap (λ v. option_map suc (behind-digits (v || (length ds == 5 && nat_le (shifted 1 ds) 150799)) (length ds) bytes)) some
       ∙ elim (cases_Bool (length ds == 5)) [
         | inl five ↦ ap (λ v. option_map suc (behind-digits (v && nat_le (shifted 1 ds) 150799) (length ds) bytes)) five
             ∙ ap (λ v. option_map suc (behind-digits v (length ds) bytes)) (five-test ds (eqb-true (length ds) 5 five))
-            ∙ five-ends (nat_le (number ds) 50799) (length ds) b bytes other (eqb-true (length ds) 5 five)
-            ∙ ap (λ v. end_of (cond v (cond (nat_le (number ds) 50799) (IsRead 6) Skipped) Malformed) (b ∷ bytes)) (sym five)
+            ∙ five-ends (nat_le (digits_number ds) 50799) (length ds) b bytes other (eqb-true (length ds) 5 five)
+            ∙ ap (λ v. end_of (cond v (cond (nat_le (digits_number ds) 50799) (IsRead 6) Skipped) Malformed) (b ∷ bytes)) (sym five)
         | inr more ↦ ap (λ v. option_map suc (behind-digits (v && nat_le (shifted 1 ds) 150799) (length ds) bytes)) more
             ∙ skipped b bytes other
-            ∙ ap (λ v. end_of (cond v (cond (nat_le (number ds) 50799) (IsRead 6) Skipped) Malformed) (b ∷ bytes)) (sym more)
+            ∙ ap (λ v. end_of (cond v (cond (nat_le (digits_number ds) 50799) (IsRead 6) Skipped) Malformed) (b ∷ bytes)) (sym more)
       ]
-      ∙ ap (λ v. end_of (cond v (IsRead 1) (cond (length ds == 5) (cond (nat_le (number ds) 50799) (IsRead 6) Skipped) Malformed)) (b ∷ bytes)) (sym some)
+      ∙ ap (λ v. end_of (cond v (IsRead 1) (cond (length ds == 5) (cond (nat_le (digits_number ds) 50799) (IsRead 6) Skipped) Malformed)) (b ∷ bytes)) (sym some)
 ]
 
 first_digit : IsVersion 5 1

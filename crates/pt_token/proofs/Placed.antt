@@ -14,26 +14,26 @@ use Rattle.pt_token.specs.declared.bytes.Class.TheVariants.{Digit, WordByte}
 use Rattle.pt_token.specs.declared.quoting.Quoting.{Quoting}
 use Rattle.pt_token.specs.declared.quoting.Quoting.TheVariants.{Within}
 use Rattle.pt_token.specs.declared.token.Token.{Token}
-use Rattle.pt_token.specs.declared.token.Found.{Found}
+use Rattle.pt_token.specs.declared.token.Lexeme.{Lexeme}
 use Rattle.pt_token.specs.declared.token.TokenKind.TheVariants as kind
 use Rattle.pt_token.specs.Bytes.{begins_word, front, is_digit, is_quote, is_word_byte}
 use Rattle.pt_token.specs.Quoting.{behind_byte, content, ends, is_marked, text_end}
-use Rattle.pt_token.specs.Tokens.{found, hex, hex_digits, is_hex, is_long_sign, is_short_sign, next_token, number_token, opens_hex, or_else, quoted, quoted_by, text, text_by, word, sign, HasTokens, IsLexed, done, gap, token}
+use Rattle.pt_token.specs.Tokens.{lexeme, hex, hex_digits, is_hex, is_long_sign, is_short_sign, next_token, number_token, opens_hex, or_else, quoted, quoted_by, text, text_by, word, sign, HasTokens, IsLexed, done, gap, token}
 use Rattle.pt_token.specs.Placed.{AreOfKind, AreWordBytes, IsPlaced, signs}
 
 -- what was found is some of the bytes, of its kind
-record IsFoundIn (bytes : List ℕ) (f : Found) : Type 0 where
+record IsFoundIn (bytes : List ℕ) (f : Lexeme) : Type 0 where
   some : 0 < f.length
   within : f.length ≤ length bytes
   of_kind : AreOfKind f.kind (take f.length bytes)
 
 -- ---- tests
 
-if_some : (t : Bool) (g f : Found) → cond t (Some g) None ≡ Some f → (t ≡ true) × (g ≡ f)
+if_some : (t : Bool) (g f : Lexeme) → cond t (Some g) None ≡ Some f → (t ≡ true) × (g ≡ f)
 if_some true g f e = (refl, cc)
 if_some false g f e = absurd (cc)
 
-none_found : (f : Found) → None ≡ Some f → ⊥
+none_found : (f : Lexeme) → None ≡ Some f → ⊥
 none_found f e = cc
 
 -- a byte that is there
@@ -62,15 +62,15 @@ some_front p (b ∷ bytes) zero first = rw (take_while-cons p b bytes, first) (o
 
 -- ---- what each kind of a token is found at
 
-hex_found : (bytes : List ℕ) (f : Found) → hex bytes ≡ Some f → IsFoundIn bytes f
+hex_found : (bytes : List ℕ) (f : Lexeme) → hex bytes ≡ Some f → IsFoundIn bytes f
 hex_found bytes f e =
-    let h = if_some (is_hex bytes) (found (kind.Hex _) (length (hex_digits bytes) + 3)) f e in
+    let h = if_some (is_hex bytes) (lexeme (kind.Hex _) (length (hex_digits bytes) + 3)) f e in
     let closed = and_parts (length (hex_digits bytes) % 2 == 0) (slice_index bytes (length (hex_digits bytes) + 2) == 39) (and_parts (opens_hex bytes) _ h.0).1 in
     subst (IsFoundIn bytes) h.1 (record { some = omega arith; within = omega (arith, there bytes (length (hex_digits bytes) + 2) 38 closed.1); of_kind = tt })
 
-word_found : (bytes : List ℕ) (f : Found) → word bytes ≡ Some f → IsFoundIn bytes f
+word_found : (bytes : List ℕ) (f : Lexeme) → word bytes ≡ Some f → IsFoundIn bytes f
 word_found bytes f e =
-    let h = if_some (begins_word (slice_index bytes 0)) (found kind.Word (length (front WordByte bytes))) f e in
+    let h = if_some (begins_word (slice_index bytes 0)) (lexeme kind.Word (length (front WordByte bytes))) f e in
     let first : is_word_byte (slice_index bytes 0) ≡ true = rw h.0 refl in
     subst (IsFoundIn bytes) h.1 (record {
       some = some_front is_word_byte bytes refl first;
@@ -78,9 +78,9 @@ word_found bytes f e =
       of_kind = subst AreWordBytes (sym (take_front is_word_byte bytes)) (record { some = some_front is_word_byte bytes refl first; each = all_front is_word_byte bytes });
     })
 
-number_found : (bytes : List ℕ) (f : Found) → number_token bytes ≡ Some f → IsFoundIn bytes f
+number_found : (bytes : List ℕ) (f : Lexeme) → number_token bytes ≡ Some f → IsFoundIn bytes f
 number_found bytes f e =
-    let h = if_some (is_digit (slice_index bytes 0) && length (front Digit bytes) == length (front WordByte bytes)) (found kind.Number (length (front Digit bytes))) f e in
+    let h = if_some (is_digit (slice_index bytes 0) && length (front Digit bytes) == length (front WordByte bytes)) (lexeme kind.Number (length (front Digit bytes))) f e in
     let first = and_parts (is_digit (slice_index bytes 0)) (length (front Digit bytes) == length (front WordByte bytes)) h.0 in
     subst (IsFoundIn bytes) h.1 (record {
       some = some_front is_digit bytes refl first.0;
@@ -96,12 +96,12 @@ between n bytes h =
     ∙ ap (take n) (drop-take 1 (n + 1) bytes)
     ∙ take-take n (n + 1) (drop 1 bytes) (omega arith)
 
-quoted_found : (bytes : List ℕ) (f : Found) → quoted bytes ≡ Some f → IsFoundIn bytes f
+quoted_found : (bytes : List ℕ) (f : Lexeme) → quoted bytes ≡ Some f → IsFoundIn bytes f
 quoted_found bytes f e =
     let inner = drop 1 bytes in
     let n = length (front WordByte inner) in
     let name = if_then (slice_index bytes 0 == 96) (quoted_by n bytes) f e in
-    let h = if_some (nat_lt 0 n && slice_index bytes (n + 1) == 96) (found kind.Quoted (n + 2)) f name in
+    let h = if_some (nat_lt 0 n && slice_index bytes (n + 1) == 96) (lexeme kind.Quoted (n + 2)) f name in
     let parts = and_parts (nat_lt 0 n) (slice_index bytes (n + 1) == 96) h.0 in
     let fits : n + 2 ≤ length bytes = omega (arith, there bytes (n + 1) 95 parts.1) in
     let some : 0 < n = grind (arith, nat_tests, parts.0) in
@@ -114,7 +114,7 @@ quoted_found bytes f e =
       };
     })
   where
-    if_then : (t : Bool) (o : Option Found) (f : Found) → cond t o None ≡ Some f → o ≡ Some f
+    if_then : (t : Bool) (o : Option Lexeme) (f : Lexeme) → cond t o None ≡ Some f → o ≡ Some f
     if_then true o f e = e
     if_then false o f e = absurd (none_found f e)
 
@@ -132,14 +132,14 @@ text_within mark at (b ∷ bytes) n e = go (ends mark at b) (text_end mark (behi
     go false None h e = absurd (cc)
     go false (Some m) h e = let same : suc m ≡ n = cc in omega (arith, h m refl)
 
-text_found : (bytes : List ℕ) (f : Found) → text bytes ≡ Some f → IsFoundIn bytes f
+text_found : (bytes : List ℕ) (f : Lexeme) → text bytes ≡ Some f → IsFoundIn bytes f
 text_found [] f e = absurd (none_found f e)
 text_found (b ∷ bytes) f e = go (is_quote b) (text_end b Within bytes) (text_within b Within bytes) e
   where
     go : (t : Bool) (o : Option ℕ) → ((m : ℕ) → o ≡ Some m → m ≤ length bytes) → cond t (text_by o b bytes) None ≡ Some f → IsFoundIn (b ∷ bytes) f
     go true None h e = absurd (none_found f e)
     go true (Some m) h e =
-        let same : found (kind.Text (content b Within (take (m - 1) bytes))) (m + 1) ≡ f = cc in
+        let same : lexeme (kind.Text (content b Within (take (m - 1) bytes))) (m + 1) ≡ f = cc in
         subst (IsFoundIn (b ∷ bytes)) same (record { some = omega arith; within = omega (arith, h m refl); of_kind = tt })
     go false o h e = absurd (none_found f e)
 
@@ -177,28 +177,28 @@ long_sign bytes e =
     (either _ (starts_with nat_eq bytes (codes ">=")) _ (λ h. two bytes (codes ">=") refl h (7, omega arith, refl))
     (either _ (starts_with nat_eq bytes (codes "<>")) _ (λ h. two bytes (codes "<>") refl h (8, omega arith, refl)) (λ h. two bytes (codes "!=") refl h (9, omega arith, refl)))) e
 
-sign_found : (bytes : List ℕ) (f : Found) → sign bytes ≡ Some f → IsFoundIn bytes f
+sign_found : (bytes : List ℕ) (f : Lexeme) → sign bytes ≡ Some f → IsFoundIn bytes f
 sign_found [] f e = absurd (none_found f e)
 sign_found (b ∷ bytes) f e = go (is_long_sign (b ∷ bytes)) (is_short_sign b) (long_sign (b ∷ bytes)) (short_sign b) e
   where
     go : (t u : Bool) → (t ≡ true → (2 ≤ length (b ∷ bytes)) × (Contains signs (take 2 (b ∷ bytes)))) → (u ≡ true → Contains signs (b ∷ []))
-        → cond t (Some (found kind.Sign 2)) (cond u (Some (found kind.Sign 1)) None) ≡ Some f → IsFoundIn (b ∷ bytes) f
-    go true u long short e = let same : found kind.Sign 2 ≡ f = cc in subst (IsFoundIn (b ∷ bytes)) same (record { some = omega arith; within = (long refl).0; of_kind = (long refl).1 })
-    go false true long short e = let same : found kind.Sign 1 ≡ f = cc in subst (IsFoundIn (b ∷ bytes)) same (record { some = omega arith; within = omega arith; of_kind = short refl })
+        → cond t (Some (lexeme kind.Sign 2)) (cond u (Some (lexeme kind.Sign 1)) None) ≡ Some f → IsFoundIn (b ∷ bytes) f
+    go true u long short e = let same : lexeme kind.Sign 2 ≡ f = cc in subst (IsFoundIn (b ∷ bytes)) same (record { some = omega arith; within = (long refl).0; of_kind = (long refl).1 })
+    go false true long short e = let same : lexeme kind.Sign 1 ≡ f = cc in subst (IsFoundIn (b ∷ bytes)) same (record { some = omega arith; within = omega arith; of_kind = short refl })
     go false false long short e = absurd (none_found f e)
 
 -- ---- tokens
 
-found_in : (bytes : List ℕ) (f : Found) → next_token bytes ≡ Some f → IsFoundIn bytes f
+found_in : (bytes : List ℕ) (f : Lexeme) → next_token bytes ≡ Some f → IsFoundIn bytes f
 unfolding next_token
 found_in bytes f e =
     first _ _ (hex_found bytes f) (first _ _ (word_found bytes f) (first _ _ (number_found bytes f) (first _ _ (quoted_found bytes f) (first _ _ (text_found bytes f) (sign_found bytes f))))) e
   where
-    first : (o other : Option Found) → (o ≡ Some f → IsFoundIn bytes f) → (other ≡ Some f → IsFoundIn bytes f) → or_else o other ≡ Some f → IsFoundIn bytes f
+    first : (o other : Option Lexeme) → (o ≡ Some f → IsFoundIn bytes f) → (other ≡ Some f → IsFoundIn bytes f) → or_else o other ≡ Some f → IsFoundIn bytes f
     first None other g h e = h e
     first (Some k) other g h e = g e
 
-placed_at : (piece : List ℕ) (place : ℕ) (f : Found) → IsFoundIn (drop place piece) f → IsPlaced piece (record { kind = f.kind; from = place; to = place + f.length })
+placed_at : (piece : List ℕ) (place : ℕ) (f : Lexeme) → IsFoundIn (drop place piece) f → IsPlaced piece (record { kind = f.kind; from = place; to = place + f.length })
 placed_at piece place f h = record {
   order = omega arith;
   within = omega (arith, h.some, h.within, length-drop place piece);

@@ -11,7 +11,7 @@ use Rattle.pt_token.specs.declared.quoting.Quoting.TheVariants.{Within, Escaped,
 use Rattle.pt_token.specs.declared.token.Token.{Token}
 use Rattle.pt_token.specs.declared.token.TokenKind.{TokenKind}
 use Rattle.pt_token.specs.declared.token.TokenKind.TheVariants as kind
-use Rattle.pt_token.specs.declared.token.Found.{Found}
+use Rattle.pt_token.specs.declared.token.Lexeme.{Lexeme}
 use Rattle.pt_token.specs.Bytes.{begins_word, front, is_digit, is_in, is_quote}
 use Rattle.pt_token.specs.Quoting.{added, behind_byte, content, escaped, hex_bytes, text_end}
 use Rattle.pt_token.specs.Tokens.{HasTokens, IsLexed, done, gap, token, hex, hex_digits, is_hex, is_long_sign, is_short_sign, next_token, number_token, or_else, quoted, quoted_by, sign, text, text_by, word}
@@ -68,15 +68,15 @@ IsNoLonger most (kind.Hex text) = length text ≤ most
 IsNoLonger most _ = Unit {0}
 
 -- a token, where there is one, has a byte at least
-abbrev Takes : ℕ → Option Found → Type 0
+abbrev Takes : ℕ → Option Lexeme → Type 0
 Takes most None = Unit {0}
 Takes most (Some f) = (0 < f.length) × IsNoLonger most f.kind
 
-takes_either : (most : ℕ) (o other : Option Found) → Takes most o → Takes most other → Takes most (or_else o other)
+takes_either : (most : ℕ) (o other : Option Lexeme) → Takes most o → Takes most other → Takes most (or_else o other)
 takes_either most None other h i = i
 takes_either most (Some f) other h i = h
 
-takes_if : (most : ℕ) (test : Bool) (o other : Option Found) → (test ≡ true → Takes most o) → Takes most other → Takes most (cond test o other)
+takes_if : (most : ℕ) (test : Bool) (o other : Option Lexeme) → (test ≡ true → Takes most o) → Takes most other → Takes most (cond test o other)
 takes_if most true o other h i = h refl
 takes_if most false o other h i = i
 

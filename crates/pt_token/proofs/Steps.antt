@@ -3,7 +3,7 @@ use Rattle.std.proofs.Common.{◌≡◌, ℕ, ◌+◌, ◌<◌, ◌≤◌, Bool,
 use Rattle.std.specs.Prelude.{◌==◌}
 use Rattle.std.proofs.lemmas.Bool.Decides.{nat_tests}
 use Rattle.pt_token.specs.declared.token.Token.{Token}
-use Rattle.pt_token.specs.declared.token.Found.{Found}
+use Rattle.pt_token.specs.declared.token.Lexeme.{Lexeme}
 use Rattle.pt_token.specs.declared.gap.Gap.{Gap}
 use Rattle.pt_token.specs.declared.fault.LexFault.{LexFault}
 use Rattle.pt_token.specs.declared.fault.LexFault.TheVariants.{BadByte, OpenQuote, OpenComment, NoMemory}
@@ -18,7 +18,7 @@ fault_behind_gap inside place bytes g is (OpenQuote p) h = behind_gap is h
 fault_behind_gap inside place bytes g is (OpenComment p) h = behind_gap is h
 fault_behind_gap inside place bytes g is NoMemory h = tt
 
-fault_behind_token : (inside : Bool) (place : ℕ) (bytes : List ℕ) (f : Found) → next_gap inside bytes ≡ None → next_token bytes ≡ Some f → (fault : LexFault)
+fault_behind_token : (inside : Bool) (place : ℕ) (bytes : List ℕ) (f : Lexeme) → next_gap inside bytes ≡ None → next_token bytes ≡ Some f → (fault : LexFault)
     → IsFaultFrom inside (place + f.length) (drop f.length bytes) fault → IsFaultFrom inside place bytes fault
 fault_behind_token inside place bytes f none is (BadByte p) h = behind_token none is h
 fault_behind_token inside place bytes f none is (OpenQuote p) h = behind_token none is h
@@ -34,7 +34,7 @@ gap_step inside place bytes g is some within = record {
   within = within;
 }
 
-pub token_step : (inside : Bool) (place : ℕ) (bytes : List ℕ) (f : Found) → None ≡ next_gap inside bytes → Some f ≡ next_token bytes → IsPart f bytes
+pub token_step : (inside : Bool) (place : ℕ) (bytes : List ℕ) (f : Lexeme) → None ≡ next_gap inside bytes → Some f ≡ next_token bytes → IsPart f bytes
     → IsStep inside place bytes (record { token = Some (record { kind = f.kind; from = place; to = place + f.length }); length = f.length; inside = inside })
 token_step inside place bytes f none is part = record {
   tokens = λ tokens h. token (sym none) (sym is) h;

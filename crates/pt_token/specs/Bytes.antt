@@ -1,6 +1,6 @@
 -- Kinds of bytes.
-use Rattle.std.specs.Prelude.{ℕ, Bool, ◌&&◌, ◌||◌, ◌==◌, nat_le, List}
-use Rattle.std.specs.List.{take_while}
+use Rattle.std.specs.Prelude.{ℕ, ◌+◌, ◌-◌, ◌*◌, Bool, ◌&&◌, ◌||◌, ◌==◌, nat_le, List}
+use Rattle.std.specs.List.{fold, take_while}
 use Rattle.pt_token.specs.declared.bytes.Class.{Class}
 use Rattle.pt_token.specs.declared.bytes.Class.TheVariants.{Digit, HexDigit, WordByte}
 
@@ -38,3 +38,7 @@ is_in WordByte b = is_word_byte b
 -- the bytes of that kind at the front
 abbrev pub front : Class → List ℕ → List ℕ
 front class bytes = take_while (is_in class) bytes
+
+-- the number that digits write
+abbrev pub digits_number : List ℕ → ℕ
+digits_number digits = fold (λ n d. 10 * n + (d - 48)) 0 digits

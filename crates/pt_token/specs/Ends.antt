@@ -15,19 +15,19 @@ quote_end mark true (b ∷ bytes) = option_map suc (quote_end mark false bytes)
 quote_end mark false (b ∷ bytes) = if b == 92 then option_map suc (quote_end mark true bytes) else (if b == mark then Some 1 else option_map suc (quote_end mark false bytes))
 
 -- a `*/`
-abbrev pub is_close : ℕ → List ℕ → Bool
-is_close b bytes = b == 42 && slice_index bytes 0 == 47
+abbrev pub closes_comment : ℕ → List ℕ → Bool
+closes_comment b bytes = b == 42 && slice_index bytes 0 == 47
 
 -- up to and with the first `*/`
 abbrev pub comment_end : List ℕ → Option ℕ
 comment_end [] = None
-comment_end (b ∷ bytes) = if is_close b bytes then Some 2 else option_map suc (comment_end bytes)
+comment_end (b ∷ bytes) = if closes_comment b bytes then Some 2 else option_map suc (comment_end bytes)
 
 -- Up to and with the first `*/` outside quotes. So many bytes at the front are passed over: those of an opener or of a quote.
 abbrev pub read_end : ℕ → List ℕ → Option ℕ
 read_end passed [] = None
 read_end (suc passed) (b ∷ bytes) = option_map suc (read_end passed bytes)
 read_end zero (b ∷ bytes) =
-    if is_close b bytes then Some 2
+    if closes_comment b bytes then Some 2
     else (if is_quote b then option_map suc (option_and_then (λ n. read_end n bytes) (quote_end b false bytes))
     else option_map suc (read_end zero bytes))

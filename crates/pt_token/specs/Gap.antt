@@ -1,26 +1,22 @@
 -- White space and comments. In a comment that is read, as in `/*!50100 .. */`, only white space and its end are such.
-use Rattle.std.specs.Prelude.{◌≡◌, ℕ, ◌+◌, ◌-◌, ◌*◌, Bool, true, false, ◌&&◌, ◌||◌, ◌==◌, nat_le, nat_eq, if◌then◌else◌, List, [], length, drop, codes, slice_index, Option, Some, None, unwrap_or}
-use Rattle.std.specs.List.{fold, starts_with}
+use Rattle.std.specs.Prelude.{◌≡◌, ℕ, ◌+◌, Bool, true, false, ◌&&◌, ◌||◌, ◌==◌, nat_le, nat_eq, if◌then◌else◌, List, [], length, drop, codes, slice_index, Option, Some, None, unwrap_or}
+use Rattle.std.specs.List.{starts_with}
 use Rattle.pt_token.specs.declared.comment.Comment.{Comment}
 use Rattle.pt_token.specs.declared.comment.Comment.TheVariants.{Plain, Read, Malformed}
 use Rattle.pt_token.specs.declared.gap.Gap.{Gap}
 use Rattle.pt_token.specs.declared.bytes.Class.TheVariants.{Digit}
-use Rattle.pt_token.specs.Bytes.{front, is_white}
+use Rattle.pt_token.specs.Bytes.{digits_number, front, is_white}
 use Rattle.pt_token.specs.Ends.{line_end, comment_end, read_end}
 
 -- how many bytes there are to the line's end, with its line feed
 abbrev pub line : List ℕ → ℕ
 line bytes = unwrap_or (line_end bytes) (length bytes)
 
--- the number that digits write
-abbrev pub number : List ℕ → ℕ
-number ds = fold (λ n d. 10 * n + (d - 48)) 0 ds
-
 -- what the digits behind `/*!` say
 abbrev pub by_digits : List ℕ → Comment
 by_digits ds =
     if length ds == 0 then Read 1
-    else (if length ds == 5 then (if nat_le (number ds) 50799 then Read 6 else Plain) else Malformed)
+    else (if length ds == 5 then (if nat_le (digits_number ds) 50799 then Read 6 else Plain) else Malformed)
 
 -- what kind of a comment it is, by the bytes behind `/*`
 unfoldable pub kind : List ℕ → Comment

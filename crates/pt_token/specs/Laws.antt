@@ -1,14 +1,20 @@
 -- What holds of the definitions themselves.
-use Rattle.std.specs.Prelude.{◌≡◌, ◌↔◌, ℕ, ◌<◌, ◌≤◌, true, if◌then◌else◌, is_some, List, [], ◌∷◌, ◌++◌, length, drop, Some, false}
+use Rattle.std.specs.Prelude.{◌≡◌, ◌↔◌, ℕ, suc, ◌+◌, ◌<◌, ◌≤◌, true, ◌==◌, if◌then◌else◌, is_some, List, [], ◌∷◌, ◌++◌, length, drop, Option, Some, false}
 use Rattle.std.specs.List.{list_all}
+use Rattle.std.specs.Option.{option_map, option_and_then}
+use Rattle.pt_token.specs.declared.token.Token.{Token}
+use Rattle.pt_token.specs.declared.fault.LexFault.{LexFault}
+use Rattle.pt_token.specs.declared.quoting.Quoting.TheVariants.{Within}
 use Rattle.pt_token.specs.declared.state.State.TheVariants.{Plain, Quote, Line, Opened, Block, Read}
+use Rattle.pt_token.specs.Bytes.{is_quote}
 use Rattle.pt_token.specs.Ends.{line_end, quote_end, comment_end, read_end}
 use Rattle.pt_token.specs.Outside.{ArePieces, IsCutAt}
 use Rattle.pt_token.specs.Pieces.{cut_in, cuts, fits, most_piece, most_script, pieces, pieces_after, used_by}
 use Rattle.pt_token.specs.Splitting.{next_cut, piece_after}
 use Rattle.pt_token.specs.Gap.{IsBlank, opened_end}
 use Rattle.pt_token.specs.Machine.{closing}
-use Rattle.pt_token.specs.Tokens.{IsLexed}
+use Rattle.pt_token.specs.Quoting.{text_end}
+use Rattle.pt_token.specs.Tokens.{HasFault, IsLexed}
 
 -- what one feed leaves to be read
 abbrev pub unread : List ℕ → List ℕ → List ℕ
@@ -38,6 +44,12 @@ CutsEnd = (script : List ℕ) (found : List (List ℕ)) (piece bytes rest : List
 abbrev pub BlankHasNoToken : Type 0
 BlankHasNoToken = (piece : List ℕ) → IsBlank piece ↔ IsLexed piece []
 
+-- A piece has one list of tokens at most, or one first fault, and never both.
+pub record OneLexing : Type 0 where
+  pub tokens : (piece : List ℕ) (all others : List Token) → IsLexed piece all → IsLexed piece others → all ≡ others
+  pub fault : (piece : List ℕ) (first other : LexFault) → HasFault false 0 piece first → HasFault false 0 piece other → first ≡ other
+  pub apart : (piece : List ℕ) (all : List Token) (first : LexFault) → IsLexed piece all → HasFault false 0 piece first → ⊥
+
 -- The machine's first cut is the first `;` outside quotes and comments.
 abbrev pub CutsOutside : Type 0
 CutsOutside = (bytes : List ℕ) (place : ℕ) → (cut_in Plain bytes ≡ Some place) ↔ IsCutAt bytes place
@@ -57,3 +69,20 @@ pub record IsLeftAtEnds (bytes : List ℕ) : Type 0 where
 -- so from every place on
 abbrev pub EndsFirst : Type 0
 EndsFirst = (bytes : List ℕ) → IsLeftAtEnds bytes
+
+-- behind a quote that may end a text: a second one, and the text goes on; else it has no more bytes
+abbrev pub doubled_end : ℕ → List ℕ → Option ℕ
+doubled_end mark [] = Some 0
+doubled_end mark (b ∷ bytes) = if b == mark then option_map suc (text_end mark Within bytes) else Some 0
+
+-- A text of the tokens ends where the cuts have its quote end, or, where a second quote stands right behind, where the text goes
+-- on to. It is open where the cuts find none.
+abbrev pub TextsEnd : Type 0
+TextsEnd = (mark : ℕ) (bytes : List ℕ) → text_end mark Within bytes
+    ≡ option_and_then (λ n. option_map (λ more. n + more) (doubled_end mark (drop n bytes))) (quote_end mark false bytes)
+
+-- To the cuts a text of the tokens is one whole: behind its first quote they go on where it ends, and there is none behind the
+-- first quote of one that is open.
+abbrev pub PassesTexts : Type 0
+PassesTexts = (mark : ℕ) (bytes : List ℕ) → is_quote mark ≡ true → cut_in Plain (mark ∷ bytes)
+    ≡ option_map suc (option_and_then (λ n. option_map (λ place. n + place) (cut_in Plain (drop n bytes))) (text_end mark Within bytes))

@@ -42,10 +42,10 @@ abbrev pub fits : List ℕ → Bool
 fits piece = nat_le (length piece) most_piece
 
 -- the pieces that are closed by a cut
-abbrev pub closed : List ℕ → List (List ℕ)
-closed script = take (length (pieces script) - 1) (pieces script)
+abbrev pub closed_pieces : List ℕ → List (List ℕ)
+closed_pieces script = take (length (pieces script) - 1) (pieces script)
 
 -- The pieces of a script, up to the first that is too long. Of a script that is too long they are those that are closed
 -- within its limit.
 unfoldable pub cuts : List ℕ → List (List ℕ)
-cuts script = take_while fits (if nat_le (length script) most_script then pieces script else closed (take most_script script))
+cuts script = take_while fits (if nat_le (length script) most_script then pieces script else closed_pieces (take most_script script))

@@ -1,13 +1,13 @@
 -- One step over a piece: a gap or a token. (In the shape of the code.)
 use Rattle.std.specs.Prelude.{ℕ, ◌+◌, ◌<◌, ◌≤◌, Bool, List, [], ◌∷◌, ◌++◌, length, drop, Option, Some, None}
 use Rattle.pt_token.specs.declared.token.Token.{Token}
-use Rattle.pt_token.specs.declared.token.Found.{Found}
+use Rattle.pt_token.specs.declared.token.Lexeme.{Lexeme}
 use Rattle.pt_token.specs.declared.lexer.Step.{Step}
 use Rattle.pt_token.specs.declared.fault.LexFault.{LexFault}
 use Rattle.pt_token.specs.Tokens.{HasTokens, IsFaultFrom}
 
 -- what was found is some of the bytes
-abbrev pub IsPart : Found → List ℕ → Type 0
+abbrev pub IsPart : Lexeme → List ℕ → Type 0
 IsPart f bytes = (0 < f.length) × (f.length ≤ length bytes)
 
 abbrev pub listed : Option Token → List Token

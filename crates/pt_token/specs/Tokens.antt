@@ -7,39 +7,39 @@ use Rattle.pt_token.specs.declared.gap.Gap.{Gap}
 use Rattle.pt_token.specs.declared.token.Token.{Token}
 use Rattle.pt_token.specs.declared.token.TokenKind.{TokenKind}
 use Rattle.pt_token.specs.declared.token.TokenKind.TheVariants.{Word, Quoted, Number, Text, Hex, Sign}
-use Rattle.pt_token.specs.declared.token.Found.{Found}
+use Rattle.pt_token.specs.declared.token.Lexeme.{Lexeme}
 use Rattle.pt_token.specs.declared.fault.LexFault.{LexFault}
 use Rattle.pt_token.specs.declared.fault.LexFault.TheVariants.{BadByte, OpenQuote, OpenComment, NoMemory}
 use Rattle.pt_token.specs.Bytes.{begins_word, front, is_digit, is_quote}
 use Rattle.pt_token.specs.Gap.{next_gap, opened_end}
 use Rattle.pt_token.specs.Quoting.{content, hex_bytes, text_end}
 
-abbrev pub found : TokenKind → ℕ → Found
-found kind length = record { kind = kind; length = length }
+abbrev pub lexeme : TokenKind → ℕ → Lexeme
+lexeme kind length = record { kind = kind; length = length }
 
 -- a letter, '_' or '$', and the letters, digits, '_' and '$' behind it
-abbrev pub word : List ℕ → Option Found
-word bytes = if begins_word (slice_index bytes 0) then Some (found Word (length (front WordByte bytes))) else None
+abbrev pub word : List ℕ → Option Lexeme
+word bytes = if begins_word (slice_index bytes 0) then Some (lexeme Word (length (front WordByte bytes))) else None
 
 -- digits, with no letter, '_' or '$' behind them
-abbrev pub number_token : List ℕ → Option Found
+abbrev pub number_token : List ℕ → Option Lexeme
 number_token bytes =
     if is_digit (slice_index bytes 0) && length (front Digit bytes) == length (front WordByte bytes)
-    then Some (found Number (length (front Digit bytes))) else None
+    then Some (lexeme Number (length (front Digit bytes))) else None
 
 -- letters, digits, '_' and '$' between backquotes, of which there are n
-abbrev pub quoted_by : ℕ → List ℕ → Option Found
-quoted_by n bytes = if nat_lt 0 n && slice_index bytes (n + 1) == 96 then Some (found Quoted (n + 2)) else None
+abbrev pub quoted_by : ℕ → List ℕ → Option Lexeme
+quoted_by n bytes = if nat_lt 0 n && slice_index bytes (n + 1) == 96 then Some (lexeme Quoted (n + 2)) else None
 
-abbrev pub quoted : List ℕ → Option Found
+abbrev pub quoted : List ℕ → Option Lexeme
 quoted bytes = if slice_index bytes 0 == 96 then quoted_by (length (front WordByte (drop 1 bytes))) bytes else None
 
 -- a text, where its closing quote is the n-th byte behind its first
-abbrev pub text_by : Option ℕ → ℕ → List ℕ → Option Found
+abbrev pub text_by : Option ℕ → ℕ → List ℕ → Option Lexeme
 text_by None mark bytes = None
-text_by (Some n) mark bytes = Some (found (Text (content mark Within (take (n - 1) bytes))) (n + 1))
+text_by (Some n) mark bytes = Some (lexeme (Text (content mark Within (take (n - 1) bytes))) (n + 1))
 
-abbrev pub text : List ℕ → Option Found
+abbrev pub text : List ℕ → Option Lexeme
 text bytes =
     if is_quote (slice_index bytes 0) then text_by (text_end (slice_index bytes 0) Within (drop 1 bytes)) (slice_index bytes 0) (drop 1 bytes) else None
 
@@ -54,8 +54,8 @@ opens_hex bytes = starts_with nat_eq bytes (codes "X'") || starts_with nat_eq by
 abbrev pub is_hex : List ℕ → Bool
 is_hex bytes = opens_hex bytes && (length (hex_digits bytes) % 2 == 0 && slice_index bytes (length (hex_digits bytes) + 2) == 39)
 
-abbrev pub hex : List ℕ → Option Found
-hex bytes = if is_hex bytes then Some (found (Hex (hex_bytes (hex_digits bytes))) (length (hex_digits bytes) + 3)) else None
+abbrev pub hex : List ℕ → Option Lexeme
+hex bytes = if is_hex bytes then Some (lexeme (Hex (hex_bytes (hex_digits bytes))) (length (hex_digits bytes) + 3)) else None
 
 -- `<=`, `>=`, `<>` and `!=`
 abbrev pub is_long_sign : List ℕ → Bool
@@ -68,16 +68,16 @@ abbrev pub is_short_sign : ℕ → Bool
 is_short_sign b =
     b == 40 || (b == 41 || (b == 44 || (b == 61 || (b == 60 || (b == 62 || (b == 43 || (b == 45 || (b == 42 || b == 37))))))))
 
-abbrev pub sign : List ℕ → Option Found
-sign bytes = if is_long_sign bytes then Some (found Sign 2) else (if is_short_sign (slice_index bytes 0) then Some (found Sign 1) else None)
+abbrev pub sign : List ℕ → Option Lexeme
+sign bytes = if is_long_sign bytes then Some (lexeme Sign 2) else (if is_short_sign (slice_index bytes 0) then Some (lexeme Sign 1) else None)
 
 -- the one that there is; a Hex is longer than the Word that it begins with
-abbrev pub or_else : Option Found → Option Found → Option Found
+abbrev pub or_else : Option Lexeme → Option Lexeme → Option Lexeme
 or_else (Some f) other = Some f
 or_else None other = other
 
 -- the longest token that the bytes begin with
-unfoldable pub next_token : List ℕ → Option Found
+unfoldable pub next_token : List ℕ → Option Lexeme
 next_token bytes = or_else (hex bytes) (or_else (word bytes) (or_else (number_token bytes) (or_else (quoted bytes) (or_else (text bytes) (sign bytes)))))
 
 abbrev pub is_open_comment : List ℕ → Bool
@@ -94,7 +94,7 @@ pub data HasTokens : Bool → ℕ → List ℕ → List Token → Type 0 where
   done : {inside : Bool} {place : ℕ} → HasTokens inside place [] []
   gap : {inside : Bool} {place : ℕ} {bytes : List ℕ} {tokens : List Token} {g : Gap} → next_gap inside bytes ≡ Some g
       → HasTokens g.inside (place + g.length) (drop g.length bytes) tokens → HasTokens inside place bytes tokens
-  token : {inside : Bool} {place : ℕ} {bytes : List ℕ} {tokens : List Token} {f : Found} → next_gap inside bytes ≡ None → next_token bytes ≡ Some f
+  token : {inside : Bool} {place : ℕ} {bytes : List ℕ} {tokens : List Token} {f : Lexeme} → next_gap inside bytes ≡ None → next_token bytes ≡ Some f
       → HasTokens inside (place + f.length) (drop f.length bytes) tokens → HasTokens inside place bytes (record { kind = f.kind; from = place; to = place + f.length } ∷ tokens)
 
 -- The first fault from a place of the piece on.
@@ -102,7 +102,7 @@ pub data HasFault : Bool → ℕ → List ℕ → LexFault → Type 0 where
   here : {inside : Bool} {place : ℕ} {bytes : List ℕ} → 0 < length bytes → next_gap inside bytes ≡ None → next_token bytes ≡ None → HasFault inside place bytes (fault_at inside place bytes)
   behind_gap : {inside : Bool} {place : ℕ} {bytes : List ℕ} {fault : LexFault} {g : Gap} → next_gap inside bytes ≡ Some g
       → HasFault g.inside (place + g.length) (drop g.length bytes) fault → HasFault inside place bytes fault
-  behind_token : {inside : Bool} {place : ℕ} {bytes : List ℕ} {fault : LexFault} {f : Found} → next_gap inside bytes ≡ None → next_token bytes ≡ Some f
+  behind_token : {inside : Bool} {place : ℕ} {bytes : List ℕ} {fault : LexFault} {f : Lexeme} → next_gap inside bytes ≡ None → next_token bytes ≡ Some f
       → HasFault inside (place + f.length) (drop f.length bytes) fault → HasFault inside place bytes fault
 
 -- the piece's tokens

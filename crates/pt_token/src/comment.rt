@@ -1,6 +1,6 @@
 ghost use Rattle.std.specs.Prelude.{◌≡◌, ◌<◌, ◌≤◌, length, All, IsTrue, IfSome};
-ghost use Rattle.pt_token.specs.Bytes.{is_digit};
-ghost use Rattle.pt_token.specs.Gap.{kind, line, number, opened_end, opener};
+ghost use Rattle.pt_token.specs.Bytes.{digits_number, is_digit};
+ghost use Rattle.pt_token.specs.Gap.{kind, line, opened_end, opener};
 ghost use Rattle.pt_token.specs.Machine.{closing};
 
 use crate::bytes::{Class, front};
@@ -70,7 +70,7 @@ pub(crate) fn kind(bytes: &[u8]) -> Comment
 fn number_of(digits: &[u8]) -> u32
     requires each { All (λ b. IsTrue (is_digit b)) digits.now }
     requires five { length digits.now ≡ 5 }
-    ensures { result ≡ number digits.now }
+    ensures { result ≡ digits_number digits.now }
 {
     let mut number = 0;
     for b in digits {

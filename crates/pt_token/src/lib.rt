@@ -4,7 +4,8 @@
 //!   (`next_cut`): a `;` outside quotes and comments. `pieces` are the pieces of a whole script.
 //! - `Splitter::is_blank` tells `IsBlank`: white space and comments alone.
 //! - `tokens` gives the tokens of a piece (`IsLexed`), or its first lexical fault (`IsFault`).
-//! - `feeds_give_pieces`, `cuts_outside`, `ends_first` and `blank_has_no_token` are theorems about these definitions.
+//! - `feeds_give_pieces`, `cuts_end`, `cuts_outside`, `ends_first`, `texts_end`, `blank_has_no_token` and `one_lexing` are theorems
+//!   about these definitions.
 //!
 //! It stands on `pt_plain` and `pt_value`.
 #![tactic(auto)]
@@ -21,7 +22,10 @@ mod state;
 mod token;
 
 pub use fault::LexFault;
-pub use laws::{blank_has_no_token, cuts_end, cuts_outside, ends_first, feeds_give_pieces};
+pub use laws::{
+    blank_has_no_token, cuts_end, cuts_outside, ends_first, feeds_give_pieces, one_lexing,
+    texts_end,
+};
 pub use lexer::tokens;
 pub use splitter::{Fed, SplitFault, Splitter};
 pub use token::{Token, TokenKind};

@@ -35,7 +35,7 @@ pub enum TokenKind {
 
 /// A token at the front of bytes.
 #[derive(Drop)]
-pub(crate) struct Found {
+pub(crate) struct Lexeme {
     pub(crate) kind: TokenKind,
     /// How many bytes it has.
     pub(crate) length: usize,
@@ -43,7 +43,7 @@ pub(crate) struct Found {
 
 /// The longest token that bytes begin with. `None` where they begin with none.
 #[tactic(auto, unfolding(crate::specs::Tokens::next_token))]
-pub(crate) fn next_token(alloc: Global, bytes: &[u8]) -> Result<Option<Found>, AllocError>
+pub(crate) fn next_token(alloc: Global, bytes: &[u8]) -> Result<Option<Lexeme>, AllocError>
     ensures value { IfOk result (λ o. o ≡ next_token bytes.now) }
     ensures part { IfOk result (λ o. IfSome o (λ f. IsPart f bytes.now)) }
 {
@@ -65,7 +65,7 @@ pub(crate) fn next_token(alloc: Global, bytes: &[u8]) -> Result<Option<Found>, A
     Ok(sign(bytes))
 }
 
-fn hex(alloc: Global, bytes: &[u8]) -> Result<Option<Found>, AllocError>
+fn hex(alloc: Global, bytes: &[u8]) -> Result<Option<Lexeme>, AllocError>
     ensures value { IfOk result (λ o. o ≡ hex bytes.now) }
     ensures part { IfOk result (λ o. IfSome o (λ f. IsPart f bytes.now)) }
 {
@@ -76,26 +76,26 @@ fn hex(alloc: Global, bytes: &[u8]) -> Result<Option<Found>, AllocError>
     if digits.len() % 2 != 0 || byte_at(bytes, digits.len() + 2) != b'\'' {
         return Ok(None);
     }
-    Ok(Some(Found {
+    Ok(Some(Lexeme {
         kind: TokenKind::Hex(hex_bytes(alloc, digits)?),
         length: digits.len() + 3,
     }))
 }
 
-fn word(bytes: &[u8]) -> Option<Found>
+fn word(bytes: &[u8]) -> Option<Lexeme>
     ensures value { result ≡ word bytes.now }
     ensures part { IfSome result (λ f. IsPart f bytes.now) }
 {
     if !begins_word(byte_at(bytes, 0)) {
         return None;
     }
-    Some(Found {
+    Some(Lexeme {
         kind: TokenKind::Word,
         length: front(Class::WordByte, bytes).len(),
     })
 }
 
-fn number(bytes: &[u8]) -> Option<Found>
+fn number(bytes: &[u8]) -> Option<Lexeme>
     ensures value { result ≡ number_token bytes.now }
     ensures part { IfSome result (λ f. IsPart f bytes.now) }
 {
@@ -106,13 +106,13 @@ fn number(bytes: &[u8]) -> Option<Found>
     if length != front(Class::WordByte, bytes).len() {
         return None;
     }
-    Some(Found {
+    Some(Lexeme {
         kind: TokenKind::Number,
         length,
     })
 }
 
-fn quoted(bytes: &[u8]) -> Option<Found>
+fn quoted(bytes: &[u8]) -> Option<Lexeme>
     ensures value { result ≡ quoted bytes.now }
     ensures part { IfSome result (λ f. IsPart f bytes.now) }
 {
@@ -123,13 +123,13 @@ fn quoted(bytes: &[u8]) -> Option<Found>
     if length == 0 || byte_at(bytes, length + 1) != b'`' {
         return None;
     }
-    Some(Found {
+    Some(Lexeme {
         kind: TokenKind::Quoted,
         length: length + 2,
     })
 }
 
-fn text(alloc: Global, bytes: &[u8]) -> Result<Option<Found>, AllocError>
+fn text(alloc: Global, bytes: &[u8]) -> Result<Option<Lexeme>, AllocError>
     ensures value { IfOk result (λ o. o ≡ text bytes.now) }
     ensures part { IfOk result (λ o. IfSome o (λ f. IsPart f bytes.now)) }
 {
@@ -140,25 +140,25 @@ fn text(alloc: Global, bytes: &[u8]) -> Result<Option<Found>, AllocError>
     let behind = &bytes[1..];
     match text_end(mark, behind) {
         None => Ok(None),
-        Some(end) => Ok(Some(Found {
+        Some(end) => Ok(Some(Lexeme {
             kind: TokenKind::Text(content(alloc, mark, &behind[..end - 1])?),
             length: end + 1,
         })),
     }
 }
 
-fn sign(bytes: &[u8]) -> Option<Found>
+fn sign(bytes: &[u8]) -> Option<Lexeme>
     ensures value { result ≡ sign bytes.now }
     ensures part { IfSome result (λ f. IsPart f bytes.now) }
 {
     if is_long_sign(bytes) {
-        return Some(Found {
+        return Some(Lexeme {
             kind: TokenKind::Sign,
             length: 2,
         });
     }
     if is_short_sign(byte_at(bytes, 0)) {
-        return Some(Found {
+        return Some(Lexeme {
             kind: TokenKind::Sign,
             length: 1,
         });

@@ -1,7 +1,9 @@
 use crate::cutting::{Form, fed_text, pieces_text};
 use crate::lexing::tokens_text;
 use percent_encoding::percent_decode;
-use pt_token::{blank_has_no_token, cuts_end, cuts_outside, ends_first, feeds_give_pieces};
+use pt_token::{
+    blank_has_no_token, cuts_end, cuts_outside, ends_first, feeds_give_pieces, one_lexing, texts_end,
+};
 use std::alloc::{AllocError, Global};
 
 /// The answer to a line.
@@ -71,7 +73,9 @@ fn laws_answer(alloc: Global) -> Result<String, AllocError> {
     cuts_outside();
     cuts_end();
     ends_first();
+    texts_end();
     blank_has_no_token();
+    one_lexing();
     String::from_str(alloc, "laws")
 }
 

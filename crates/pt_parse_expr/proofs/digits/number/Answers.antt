@@ -3,7 +3,8 @@ use Rattle.std.proofs.lemmas.List.{take_all}
 use Rattle.std.proofs.lemmas.List.Sums.{fold_more}
 use Rattle.std.proofs.lemmas.Int.{to_z_pos}
 use mir.Syntax.{w128}
-use Rattle.pt_parse_expr.specs.Symbols.{digits_number, number}
+use Rattle.pt_token.specs.Bytes.{digits_number}
+use Rattle.pt_parse_expr.specs.Symbols.{number}
 use Rattle.pt_parse_expr.proofs.digits.number.Goals as goal
 
 -- one digit more, over a bound that stays
@@ -11,7 +12,6 @@ within : (most n d : ℕ) → min (10 * min n most + d) most ≡ min (10 * n + d
 within most n d = omega arith
 
 more : (digits : List ℕ) (i : ℕ) → i < length digits → digits_number (take (i + 1) digits) ≡ 10 * digits_number (take i digits) + (get_or digits i 0 - 48)
-unfolding digits_number
 more digits i h = fold_more (λ n d. 10 * n + (d - 48)) 0 digits i 0 h
 
 next : (most number at : ℕ) (digits : List ℕ) (i : ℕ) → i < length digits → number ≡ min (digits_number (take i digits)) most
@@ -21,7 +21,6 @@ next most number at digits i h so_far step =
     ∙ ap (λ n. min n most) (sym (more digits i h))
 
 pub loop-b-init : goal.loop-b-init
-unfolding digits_number
 loop-b-init c = refl
 
 pub loop-b-preserved : goal.loop-b-preserved

@@ -1,6 +1,6 @@
 -- The number of the digits so far, within 128 bits.
 use Rattle.std.proofs.Common.{◌≡◌, ◌-◌, ◌^◌, min, take}
-use Rattle.pt_parse_expr.specs.Symbols.{digits_number}
+use Rattle.pt_token.specs.Bytes.{digits_number}
 use Rattle.pt_parse_expr.proofs.digits.number.Given as goal
 
 abbrev pub invariant-loop-b : goal.invariant-loop-b
