@@ -1,0 +1,4 @@
+pub mod Names
+pub mod Apart
+pub mod ByName
+pub mod Cleaning

@@ -1,0 +1,4 @@
+pub mod Chain
+pub mod Clean
+pub mod Laws
+pub mod Tests
