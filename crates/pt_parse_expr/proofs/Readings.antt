@@ -1,5 +1,5 @@
 -- What the reading of symbols, from a place on, says of the symbols.
-use Rattle.std.proofs.Common.{◌≡◌, ℕ, ◌+◌, ◌<◌, ◌≤◌, ◌^◌, List, [], length, drop, slice_range, Option, Some, None, Result, Ok, Err, IfOk, arith, length-drop, length-take, ◌-◌}
+use Rattle.std.proofs.Common.{◌≡◌, ℕ, ◌+◌, ◌<◌, ◌≤◌, [], length, drop, slice_range, Option, Some, None, Result, Ok, Err, IfOk, arith, length-drop, length-take, ◌-◌}
 use Rattle.std.specs.declared.alloc.AllocError.{AllocError}
 use Rattle.pt_ast.specs.declared.tree.Expr.{Expr}
 use Rattle.pt_ast.specs.declared.tree.Cond.{Cond}

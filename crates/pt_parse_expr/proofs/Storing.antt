@@ -1,6 +1,5 @@
 -- What the rules spell of symbols within the limits is storable.
 use Rattle.std.proofs.Common.{◌≡◌, ℕ, zero, suc, ◌+◌, ◌*◌, ◌^◌, ◌≤◌, ◌<◌, Bool, false, List, [], ◌∷◌, ◌++◌, length, length-drop, drop, refl, subst, arith}
-use Rattle.std.specs.Prelude.{All}
 use Rattle.std.specs.List.{AllByRecursion}
 use Rattle.std.proofs.lemmas.List.Elements.{All-drop, All-from_recursion, recursion_from_All}
 use Rattle.pt_ast.specs.declared.tree.Op.{Op}
@@ -11,7 +10,7 @@ use Rattle.pt_ast.specs.StorableExpr.{IsStorableExpr}
 use Rattle.pt_ast.specs.StorableCond.{IsStorableCond}
 use Rattle.pt_parse_expr.specs.declared.alphabet.Mark.TheVariants.{Open}
 use Rattle.pt_parse_expr.specs.declared.alphabet.Symbol.{Symbol}
-use Rattle.pt_parse_expr.specs.declared.alphabet.Symbol.TheVariants.{Fixed, Number, Text, Hex}
+use Rattle.pt_parse_expr.specs.declared.alphabet.Symbol.TheVariants.{Fixed}
 use Rattle.pt_parse_expr.specs.Grammar.{Symbols, Terms, Factors, sum_of, product_of, and_of, or_of, IsSign, IsOp, IsExpr, sum, AreTerms, no_term, term, IsTerm, product, AreFactors, no_factor, factor, IsFactor, bare, positive, negative, IsPrimary, number, text, hex, date, null, word, quoted, call, call_mod, parens, AreMore, no_more, more, IsNegation, without, with_not, IsCond, or, AreConjs, no_conj, conj, IsConj, and, AreNegs, no_neg, neg, IsNeg, plain, negated, IsTest, in_parens, compare, is_null, is_in, between}
 use Rattle.pt_parse_expr.specs.Limits.{IsShallow, open_after}
 pub use Rattle.pt_parse_expr.specs.Limits.{IsStorableSymbol, AreStorableSymbols}

@@ -46,10 +46,11 @@ IsStorableSymbol (Text bytes) = IsCounted bytes
 IsStorableSymbol (Hex bytes) = IsCounted bytes
 IsStorableSymbol _ = Unit {0}
 
+-- each is so
 abbrev pub AreStorableSymbols : Symbols → Type 0
 AreStorableSymbols symbols = All (λ s. IsStorableSymbol s) symbols
 
--- fewer than 2^32 such symbols: what they spell is storable, where they aren't deep
+-- Fewer than 2^32 such symbols. What they spell is storable, where they aren't deep.
 pub record AreStorable (symbols : Symbols) : Type 0 where
   pub few : IsCounted symbols
   pub each : AreStorableSymbols symbols

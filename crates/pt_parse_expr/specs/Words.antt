@@ -7,8 +7,8 @@ use Rattle.pt_parse_expr.specs.declared.alphabet.Mark.{Mark}
 use Rattle.pt_parse_expr.specs.declared.alphabet.Mark.TheVariants.{Open, Close, Comma, Plus, Minus, Star, Percent, Compare, And, Between, Div, In, Is, Mod, Not, Null, Or, Other}
 use Rattle.pt_parse_expr.specs.declared.alphabet.Reserved.TheVariants as word
 
--- The reserved words: they are no names unless they stand between backquotes. This profile's own list; the manual's chapter
--- "Keywords and Reserved Words" has more.
+-- The reserved words: they are no names unless they stand between backquotes. Each is reserved by the manual's chapter "Keywords
+-- and Reserved Words" too, which has more.
 abbrev pub reserved_words : List (List ℕ × Mark)
 reserved_words =
     (codes "ADD", Other word.Add) ∷ (codes "ALL", Other word.All) ∷ (codes "ALTER", Other word.Alter) ∷ (codes "AND", And)

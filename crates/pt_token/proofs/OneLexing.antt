@@ -1,5 +1,5 @@
 -- A piece has one list of tokens at most, or one first fault, and never both.
-use Rattle.std.proofs.Common.{◌≡◌, ℕ, ◌+◌, ◌<◌, Bool, true, false, List, [], ◌∷◌, length, drop, Some, None, refl, ap, ◌∙◌, sym, subst, arith}
+use Rattle.std.proofs.Common.{◌≡◌, ℕ, ◌+◌, Bool, true, false, List, [], ◌∷◌, length, drop, Some, None, refl, ap, ◌∙◌, sym, subst, arith}
 use Rattle.pt_token.specs.declared.token.Token.{Token}
 use Rattle.pt_token.specs.declared.token.Lexeme.{Lexeme}
 use Rattle.pt_token.specs.declared.gap.Gap.{Gap}

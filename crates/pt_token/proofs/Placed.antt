@@ -3,7 +3,7 @@ use Rattle.std.proofs.Common.{◌≡◌, ℕ, suc, ◌+◌, ◌-◌, ◌<◌, �
 use Rattle.std.specs.Prelude.{◌==◌, ◌&&◌, ◌||◌, nat_eq, nat_lt, ◌%◌, codes, slice_index, slice_range, Contains, IsTrue}
 use Rattle.std.specs.List.{starts_with, take_while}
 use Rattle.std.specs.Option.{option_map}
-use Rattle.std.proofs.lemmas.Bool.{and_parts}
+use Rattle.std.proofs.lemmas.Bool.{and_parts, false≢true}
 use Rattle.std.proofs.lemmas.Bool.Decides.{Decides-eqb, nat_tests}
 use Rattle.std.proofs.lemmas.Slice.Eq.{slice_eq-Decides}
 use Rattle.std.proofs.lemmas.List.Elements.{All-nil, All-cons}
@@ -161,9 +161,10 @@ short_sign b e =
     (either _ (b == 61) _ (λ h. one b 61 h (3, omega arith, refl))
     (either _ (b == 60) _ (λ h. one b 60 h (4, omega arith, refl))
     (either _ (b == 62) _ (λ h. one b 62 h (5, omega arith, refl))
-    (either _ (b == 43) _ (λ h. one b 43 h (10, omega arith, refl))
-    (either _ (b == 45) _ (λ h. one b 45 h (11, omega arith, refl))
-    (either _ (b == 42) _ (λ h. one b 42 h (12, omega arith, refl)) (λ h. one b 37 h (13, omega arith, refl)))))))))) e
+    (either _ (b == 43) _ (λ h. one b 43 h (6, omega arith, refl))
+    (either _ (b == 45) _ (λ h. one b 45 h (7, omega arith, refl))
+    (either _ (b == 42) _ (λ h. one b 42 h (8, omega arith, refl))
+    (either _ (b == 37) _ (λ h. one b 37 h (9, omega arith, refl)) (λ bad. absurd (false≢true bad))))))))))) e
 
 -- the first two bytes are these, which are a sign
 two : (bytes both : List ℕ) → length both ≡ 2 → starts_with nat_eq bytes both ≡ true → Contains signs both → (2 ≤ length bytes) × Contains signs (take 2 bytes)
@@ -173,9 +174,10 @@ two bytes both length_2 e h =
 
 long_sign : (bytes : List ℕ) → is_long_sign bytes ≡ true → (2 ≤ length bytes) × Contains signs (take 2 bytes)
 long_sign bytes e =
-    either _ (starts_with nat_eq bytes (codes "<=")) _ (λ h. two bytes (codes "<=") refl h (6, omega arith, refl))
-    (either _ (starts_with nat_eq bytes (codes ">=")) _ (λ h. two bytes (codes ">=") refl h (7, omega arith, refl))
-    (either _ (starts_with nat_eq bytes (codes "<>")) _ (λ h. two bytes (codes "<>") refl h (8, omega arith, refl)) (λ h. two bytes (codes "!=") refl h (9, omega arith, refl)))) e
+    either _ (starts_with nat_eq bytes (codes "<=")) _ (λ h. two bytes (codes "<=") refl h (10, omega arith, refl))
+    (either _ (starts_with nat_eq bytes (codes ">=")) _ (λ h. two bytes (codes ">=") refl h (11, omega arith, refl))
+    (either _ (starts_with nat_eq bytes (codes "<>")) _ (λ h. two bytes (codes "<>") refl h (12, omega arith, refl))
+    (either _ (starts_with nat_eq bytes (codes "!=")) _ (λ h. two bytes (codes "!=") refl h (13, omega arith, refl)) (λ bad. absurd (false≢true bad))))) e
 
 sign_found : (bytes : List ℕ) (f : Lexeme) → sign bytes ≡ Some f → IsFoundIn bytes f
 sign_found [] f e = absurd (none_found f e)

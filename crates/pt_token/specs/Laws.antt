@@ -70,19 +70,19 @@ pub record IsLeftAtEnds (bytes : List ℕ) : Type 0 where
 abbrev pub EndsFirst : Type 0
 EndsFirst = (bytes : List ℕ) → IsLeftAtEnds bytes
 
--- behind a quote that may end a text: a second one, and the text goes on; else it has no more bytes
+-- how many bytes a text has behind a quote that may end it: a second one and what follows, or none
 abbrev pub doubled_end : ℕ → List ℕ → Option ℕ
 doubled_end mark [] = Some 0
 doubled_end mark (b ∷ bytes) = if b == mark then option_map suc (text_end mark Within bytes) else Some 0
 
--- A text of the tokens ends where the cuts have its quote end, or, where a second quote stands right behind, where the text goes
--- on to. It is open where the cuts find none.
+-- A text of the tokens ends at the first quote that no backslash escapes, as the cuts have it; but where a second quote stands
+-- right behind that one, it goes on behind the second. Where there is no such quote, it is open.
 abbrev pub TextsEnd : Type 0
 TextsEnd = (mark : ℕ) (bytes : List ℕ) → text_end mark Within bytes
     ≡ option_and_then (λ n. option_map (λ more. n + more) (doubled_end mark (drop n bytes))) (quote_end mark false bytes)
 
--- To the cuts a text of the tokens is one whole: behind its first quote they go on where it ends, and there is none behind the
--- first quote of one that is open.
+-- The cuts pass over a text of the tokens as a whole: they go on where it ends, and where it is open there is no cut behind its
+-- first quote.
 abbrev pub PassesTexts : Type 0
 PassesTexts = (mark : ℕ) (bytes : List ℕ) → is_quote mark ≡ true → cut_in Plain (mark ∷ bytes)
     ≡ option_map suc (option_and_then (λ n. option_map (λ place. n + place) (cut_in Plain (drop n bytes))) (text_end mark Within bytes))

@@ -1,6 +1,7 @@
 -- What the bytes of a token are, by its kind.
-use Rattle.std.specs.Prelude.{ℕ, ◌-◌, ◌<◌, ◌≤◌, List, [], ◌∷◌, length, codes, slice_range, All, Contains, IsTrue}
+use Rattle.std.specs.Prelude.{ℕ, ◌-◌, ◌<◌, ◌≤◌, List, [], ◌∷◌, ◌++◌, length, map, slice_range, All, Contains, IsTrue}
 use Rattle.pt_token.specs.Bytes.{is_digit, is_word_byte}
+use Rattle.pt_token.specs.Tokens.{long_signs, short_signs}
 use Rattle.pt_token.specs.declared.token.Token.{Token}
 use Rattle.pt_token.specs.declared.token.TokenKind.{TokenKind}
 use Rattle.pt_token.specs.declared.token.TokenKind.TheVariants.{Word, Quoted, Number, Text, Hex, Sign}
@@ -17,9 +18,7 @@ pub record AreQuoted (bytes : List ℕ) : Type 0 where
 
 -- the signs
 abbrev pub signs : List (List ℕ)
-signs =
-    codes "(" ∷ codes ")" ∷ codes "," ∷ codes "=" ∷ codes "<" ∷ codes ">" ∷ codes "<=" ∷ codes ">=" ∷ codes "<>" ∷ codes "!=" ∷ codes "+" ∷ codes "-"
-    ∷ codes "*" ∷ codes "%" ∷ []
+signs = map (λ b. b ∷ []) short_signs ++ long_signs
 
 -- the bytes are some that a token of that kind may have
 abbrev pub AreOfKind : TokenKind → List ℕ → Type 0

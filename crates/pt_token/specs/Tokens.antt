@@ -1,6 +1,6 @@
 -- The tokens of a piece, and its first lexical fault.
 use Rattle.std.specs.Prelude.{◌≡◌, ◌<◌, ℕ, ◌+◌, ◌-◌, ◌%◌, Bool, false, not, ◌&&◌, ◌||◌, ◌==◌, nat_lt, nat_eq, if◌then◌else◌, is_none, List, [], ◌∷◌, length, take, drop, codes, slice_index, Option, Some, None}
-use Rattle.std.specs.List.{starts_with}
+use Rattle.std.specs.List.{list_any, starts_with}
 use Rattle.pt_token.specs.declared.bytes.Class.TheVariants.{Digit, HexDigit, WordByte}
 use Rattle.pt_token.specs.declared.quoting.Quoting.TheVariants.{Within}
 use Rattle.pt_token.specs.declared.gap.Gap.{Gap}
@@ -57,16 +57,19 @@ is_hex bytes = opens_hex bytes && (length (hex_digits bytes) % 2 == 0 && slice_i
 abbrev pub hex : List ℕ → Option Lexeme
 hex bytes = if is_hex bytes then Some (lexeme (Hex (hex_bytes (hex_digits bytes))) (length (hex_digits bytes) + 3)) else None
 
--- `<=`, `>=`, `<>` and `!=`
-abbrev pub is_long_sign : List ℕ → Bool
-is_long_sign bytes =
-    starts_with nat_eq bytes (codes "<=") || (starts_with nat_eq bytes (codes ">=")
-    || (starts_with nat_eq bytes (codes "<>") || starts_with nat_eq bytes (codes "!=")))
+-- the signs of two bytes
+abbrev pub long_signs : List (List ℕ)
+long_signs = codes "<=" ∷ codes ">=" ∷ codes "<>" ∷ codes "!=" ∷ []
 
--- ( ) , = < > + - * %
+-- the signs of one byte
+abbrev pub short_signs : List ℕ
+short_signs = codes "(),=<>+-*%"
+
+abbrev pub is_long_sign : List ℕ → Bool
+is_long_sign bytes = list_any (λ both. starts_with nat_eq bytes both) long_signs
+
 abbrev pub is_short_sign : ℕ → Bool
-is_short_sign b =
-    b == 40 || (b == 41 || (b == 44 || (b == 61 || (b == 60 || (b == 62 || (b == 43 || (b == 45 || (b == 42 || b == 37))))))))
+is_short_sign b = list_any (λ c. b == c) short_signs
 
 abbrev pub sign : List ℕ → Option Lexeme
 sign bytes = if is_long_sign bytes then Some (lexeme Sign 2) else (if is_short_sign (slice_index bytes 0) then Some (lexeme Sign 1) else None)

@@ -32,7 +32,7 @@ pub fn ends_first()
     ensures { EndsFirst }
 {}
 
-/// A text of the tokens ends where the cuts have its quote end, and goes on behind a doubled one. To the cuts it is one whole.
+/// A text of the tokens ends where the cuts have its quote end, but for doubled quotes, and the cuts pass over it as a whole.
 pub fn texts_end()
     ensures ends { TextsEnd }
     ensures passed { PassesTexts }

@@ -2,7 +2,8 @@ use crate::cutting::{Form, fed_text, pieces_text};
 use crate::lexing::tokens_text;
 use percent_encoding::percent_decode;
 use pt_token::{
-    blank_has_no_token, cuts_end, cuts_outside, ends_first, feeds_give_pieces, one_lexing, texts_end,
+    blank_has_no_token, cuts_end, cuts_outside, ends_first, feeds_give_pieces, one_lexing,
+    texts_end,
 };
 use std::alloc::{AllocError, Global};
 
