@@ -1,0 +1,9 @@
+pub mod Tables
+pub mod Order
+pub mod Rising
+pub mod Meet
+pub mod Gaps
+pub mod Lists
+pub mod Walks
+pub mod Gap
+pub mod Places
