@@ -1,0 +1,6 @@
+pub mod Marks
+pub mod Entries
+pub mod Held
+pub mod Keeping
+pub mod Agreement
+pub mod Views
