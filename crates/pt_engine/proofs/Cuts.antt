@@ -1,11 +1,12 @@
 -- How the pieces of a script follow from those of its front.
-use Rattle.std.proofs.Common.{◌≡◌, ℕ, suc, ◌+◌, ◌-◌, ◌<◌, ◌≤◌, Bool, true, false, cond, ◌&&◌, ◌==◌, nat_le, nat_lt, List, [], ◌∷◌, ◌++◌, length, take, refl, ap, ◌∙◌, sym, subst, arith, append_assoc, length-append, one-add}
+use Rattle.std.proofs.Common.{◌≡◌, ℕ, suc, ◌+◌, ◌-◌, ◌<◌, ◌≤◌, Bool, true, false, cond, ◌&&◌, ◌==◌, nat_le, nat_lt, List, [], ◌∷◌, ◌++◌, length, take, refl, ap, ◌∙◌, sym, subst, arith, append_assoc, length-append}
 use Rattle.std.specs.List.{list_all, list_any, take_while}
 use Rattle.std.proofs.lemmas.Grind.{common_steps}
 use Rattle.std.proofs.lemmas.Bool.Decides.{nat_tests}
 use Rattle.std.proofs.lemmas.List.Folds.{list_all-append, list_any-append}
 use Rattle.std.proofs.Math.Seq.{take-append-add, take-append_seam}
 use Rattle.std.proofs.Math.Bool.{or-true}
+use Rattle.pt_plain.proofs.Fronts.{take_while-all, take_while-first}
 use Rattle.pt_engine.specs.Script.{in_front, pieces, closed, most_piece, most_input, cuts, has_excess}
 
 pub pieces-some : (script : List ℕ) → (first : List ℕ) × (others : List (List ℕ)) × (pieces script ≡ first ∷ others)
@@ -79,25 +80,10 @@ take-but_last_of xs y z ys =
     ∙ take-append-add xs (y ∷ z ∷ ys) (suc (length ys))
 
 module _ {X : Type 0} (p : X → Bool) where
-  take_while-pass : (x : X) (xs : List X) → p x ≡ true → take_while p (x ∷ xs) ≡ x ∷ take_while p xs
-  take_while-pass x xs e = rw (e, one-add) refl
-
-  take_while-fail : (x : X) (xs : List X) → p x ≡ false → take_while p (x ∷ xs) ≡ []
-  take_while-fail x xs e = rw e refl
-
-  pub take_while-end : (xs : List X) → list_all p xs ≡ true → take_while p xs ≡ xs
-  take_while-end [] e = refl
-  take_while-end (x ∷ xs) e = let h = both (p x) (list_all p xs) e in take_while-pass x xs h.0 ∙ ap (λ ys. x ∷ ys) (take_while-end xs h.1)
-
-  -- up to the first that fails
-  pub take_while-first : (xs : List X) (y : X) (ys : List X) → list_all p xs ≡ true → p y ≡ false → take_while p (xs ++ y ∷ ys) ≡ xs
-  take_while-first [] y ys e f = take_while-fail y ys f
-  take_while-first (x ∷ xs) y ys e f = let h = both (p x) (list_all p xs) e in take_while-pass x (xs ++ y ∷ ys) h.0 ∙ ap (λ zs. x ∷ zs) (take_while-first xs y ys h.1 f)
-
   -- the last one is left out
   pub take_while-front : (xs : List X) (y : X) (ys : List X) → list_all p xs ≡ true → p y ≡ false → take_while p (take (length (xs ++ y ∷ ys) - 1) (xs ++ y ∷ ys)) ≡ xs
-  take_while-front xs y [] e f = ap (take_while p) (take-but_last xs y) ∙ take_while-end xs e
-  take_while-front xs y (z ∷ ys) e f = ap (take_while p) (take-but_last_of xs y z ys) ∙ take_while-first xs y _ e f
+  take_while-front xs y [] e f = ap (take_while p) (take-but_last xs y) ∙ take_while-all p xs e
+  take_while-front xs y (z ∷ ys) e f = ap (take_while p) (take-but_last_of xs y z ys) ∙ take_while-first p xs y _ e f
 
   pub list_any-first : (xs : List X) (y : X) (ys : List X) → p y ≡ true → list_any p (xs ++ y ∷ ys) ≡ true
   list_any-first xs y ys e = list_any-append p xs (y ∷ ys) ∙ rw e (or-true (list_any p xs))
@@ -131,7 +117,7 @@ whole_cuts all before piece cut is fits room =
     let each : list_all short (before ++ piece ∷ []) ≡ true = list_all-append short before (piece ∷ []) ∙ rw (is, (short_stays piece fits).0) refl in
     let in_limit : nat_le (length all) most_input ≡ true = grind (arith, nat_tests) in
     let within : nat_lt most_input (length all) ≡ false = grind (arith, nat_tests) in (
-      rw (in_limit, e) (take_while-end short (before ++ piece ∷ []) each),
+      rw (in_limit, e) (take_while-all short (before ++ piece ∷ []) each),
       rw (within, e) (not_long (before ++ piece ∷ []) each),
     )
 
@@ -172,4 +158,4 @@ input_cuts front before piece cut is full b rest =
     let past : nat_le (length (front ++ b ∷ rest)) most_input ≡ false = grind (arith, nat_tests, more) in
     let passed : nat_lt most_input (length (front ++ b ∷ rest)) ≡ true = grind (arith, nat_tests, more) in
     let taken : take most_input (front ++ b ∷ rest) ≡ front = subst (λ n. take n (front ++ b ∷ rest) ≡ front) full (take-append_seam front (b ∷ rest)) in
-    (rw (past, taken, cut_end front before piece cut, take-but_last before piece) (take_while-end short before is), rw passed refl)
+    (rw (past, taken, cut_end front before piece cut, take-but_last before piece) (take_while-all short before is), rw passed refl)

@@ -1,11 +1,11 @@
 -- The next symbol, read from the front of some bytes, is the first symbol of each list that they are.
-use Rattle.std.proofs.Common.{◌≡◌, ℕ, suc, ◌+◌, ◌<◌, ◌==◌, Bool, true, false, cond, if◌then◌else◌, List, [], ◌∷◌, ◌++◌, length, take, drop, Option, Some, None, IfSome, All, IsTrue, refl, sym, ap, subst, ◌∙◌, arith, take-append-drop}
-use Rattle.std.specs.List.{prefix_len, take_while, slice_get, list_all}
+use Rattle.std.proofs.Common.{◌≡◌, ℕ, suc, ◌+◌, ◌<◌, ◌==◌, Bool, true, false, if◌then◌else◌, List, [], ◌∷◌, ◌++◌, length, take, drop, Option, Some, None, IfSome, All, IsTrue, refl, sym, ap, subst, ◌∙◌, arith, take-append-drop}
+use Rattle.std.specs.List.{prefix_len, slice_get, list_all}
 use Rattle.std.proofs.Math.Seq.{take-append_seam, drop-append_seam}
 use Rattle.std.proofs.lemmas.Bool.{eqb-true, and_parts, and_from}
 use Rattle.std.proofs.lemmas.Bool.Decides.{nat_tests}
-use Rattle.std.proofs.lemmas.List.Elements.{All-head, All-tail, All-nil, All-cons, All-same}
-use Rattle.std.proofs.lemmas.List.Sums.{take_while-cons}
+use Rattle.std.proofs.lemmas.List.Elements.{All-head, All-tail}
+use Rattle.pt_plain.proofs.Fronts.{front_passes}
 use Rattle.pt_flat.specs.Word.{is_word_byte}
 use Rattle.pt_engine.specs.declared.symbols.Sign.{Sign}
 use Rattle.pt_engine.specs.declared.symbols.Sign.TheVariants.{Open, Close, Minus, Star}
@@ -19,13 +19,6 @@ past-passed p b bytes e = rw e (let s : 1 + prefix_len p bytes ≡ suc (prefix_l
 
 past-stopped : (p : ℕ → Bool) (b : ℕ) (bytes : List ℕ) → p b ≡ false → past p (b ∷ bytes) ≡ b ∷ bytes
 past-stopped p b bytes e = rw e refl
-
-front_passes : (p : ℕ → Bool) (bytes : List ℕ) → All (λ b. p b ≡ true) (take_while p bytes)
-front_passes p [] = All-nil (λ b. p b ≡ true)
-front_passes p (b ∷ bytes) = All-same (λ b. p b ≡ true) _ _ (take_while-cons p b bytes) (by_test (p b) refl (front_passes p bytes)) where
-  by_test : (r : Bool) → p b ≡ r → All (λ b. p b ≡ true) (take_while p bytes) → All (λ b. p b ≡ true) (cond r (b ∷ take_while p bytes) [])
-  by_test true e each = All-cons (λ b. p b ≡ true) b (take_while p bytes) e each
-  by_test false e each = All-nil (λ b. p b ≡ true)
 
 past_stops : (p : ℕ → Bool) (bytes : List ℕ) → IfSome (slice_get (past p bytes) 0) (λ b. p b ≡ false)
 past_stops p [] = tt

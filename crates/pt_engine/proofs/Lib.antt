@@ -13,5 +13,4 @@ pub mod SessionLemmas
 pub mod SayingLemmas
 pub mod OpeningLemmas
 pub mod RunLemmas
-pub mod EmptyDirectory
 pub mod Unchanged

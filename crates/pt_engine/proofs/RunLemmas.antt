@@ -8,33 +8,22 @@ use Rattle.pt_host.specs.Disk.{Fs, Files, EachImage, IsAtRest, shown}
 use Rattle.pt_host.specs.World.{World, Since, IsQuiet, IsIdle, after_enter}
 use Rattle.pt_host.specs.Replacement.{AsBeforeBut}
 use Rattle.pt_host.proofs.Runs.{since_then, since_weaken, quiet_weaken}
-use Rattle.pt_store.specs.Left.{IsLeft, shadow_name}
-use Rattle.pt_store.proofs.Moments.{at_rest_left}
-use Rattle.pt_store.proofs.Once.{left_once}
+use Rattle.pt_left.specs.Left.{IsLeft, shadow_name}
+use Rattle.pt_left.proofs.Directories.{at_rest_left}
 use Rattle.pt_flat.specs.declared.data.Db.{Db}
-use Rattle.pt_table_files.specs.Holds.{Holds}
-use Rattle.pt_table_files.proofs.OneDatabase.{holds_one}
-use Rattle.pt_host.specs.Listed.{by_name}
+use Rattle.pt_table_files.proofs.Directories.{one_held}
 use Rattle.pt_host.specs.Counts.{Counts}
 use Rattle.pt_engine.specs.Causes.{IsCaused, NoneRose}
 use Rattle.pt_engine.specs.Answers.{AreFirst, ChangesNothing, HoldsAfter}
-use Rattle.pt_engine.specs.Kept.{HoldsIn, IsInOrder, KeepsInOrder, StandsAfter, StandsKeeping}
+use Rattle.pt_table_files.specs.Directory.{HoldsIn}
+use Rattle.pt_engine.specs.Kept.{IsInOrder, KeepsInOrder, StandsAfter, StandsKeeping}
 use Rattle.pt_engine.specs.Script.{has_excess, statements, TakesWithin}
 use Rattle.pt_engine.specs.Session.{StopsOpening}
 use Rattle.pt_engine.specs.Input.{StopsTaking, TakesOnly}
 use Rattle.pt_engine.specs.Saying.{StandsFirst}
-use Rattle.pt_engine.specs.Run.{IsComplete, StandsAt, TellsDamage}
+use Rattle.pt_engine.specs.Run.{IfDamaged, IsComplete, IsDamage, StandsAt, TellsDamage}
 use Rattle.pt_engine.specs.Parts.{IsRun, StandsTaken}
 use Rattle.pt_engine.proofs.AnswerLemmas.{says_whole, says_up_to}
-
--- a directory at rest holds in each image what it shows
-pub rest_holds : (fs : Fs) (db : Db) → IsAtRest fs → HoldsIn (shown fs) db → EachImage fs (λ files. HoldsIn files db)
-rest_holds fs db rest held files image = (held.0, at_rest_left fs held.0 rest held.1 files image, held.2)
-
--- a directory holds one database
-pub one_held : (files : Files) (a b : Db) → HoldsIn files a → HoldsIn files b → a ≡ b
-one_held files a b first other =
-    holds_one (by_name first.0) a b first.2 (subst (λ map. Holds map b) (left_once files other.0 first.0 other.1 first.1) other.2)
 
 -- what holds of a run holds from before the directory was entered
 pub entered_in_order : (db : Db) (dir : List ℕ) (old w new : World) → w ≡ after_enter dir old
@@ -43,15 +32,15 @@ entered_in_order db dir old w new is headline held =
     let run = subst (λ (u : World). HoldsIn (shown u.now.fs) db → KeepsInOrder db (statements u.input) u new) is headline held in
     record { added = run.added; grows = run.grows; each = run.each }
 
-pub entered_damage : (ending : Ending) (dir : List ℕ) (old w new : World) → w ≡ after_enter dir old → TellsDamage ending w new → TellsDamage ending old new
-entered_damage ending dir old w new is tells = go ending (subst (λ (u : World). TellsDamage ending u new) is tells)
+pub entered_damage : (ending : Ending) (dir : List ℕ) (old new : World) → TellsDamage ending (after_enter dir old) new → TellsDamage ending old new
+entered_damage ending dir old new tells = record { damage = go ending tells.damage; opened = tells.opened }
   where
-    go : (e : Ending) → TellsDamage e (after_enter dir old) new → TellsDamage e old new
+    go : (e : Ending) → IfDamaged e (λ name place. IsDamage name place (after_enter dir old) new) → IfDamaged e (λ name place. IsDamage name place old new)
+    go (Damaged name place) h = record { bad = h.bad; none = h.none; said = h.said; others = record { added = h.others.added; grows = h.others.grows; each = h.others.each } }
     go Done h = h
     go Usage h = h
     go DiskFault h = h
     go NoMemory h = h
-    go (Damaged name place) h = (h.0, h.1, h.2, h.3, h.4, record { added = h.5.added; grows = h.5.grows; each = h.5.each })
     go InputFault h = h
     go OutputFault h = h
     go TooLong h = h
@@ -76,7 +65,7 @@ pub entered_run : (ending : Ending) (dir : List ℕ) (old w new : World) → w �
 entered_run ending dir old w new is formed run =
     let entered = subst (λ (u : World). IsRun ending u new) is run in
     record {
-      damage = entered_damage ending dir old (after_enter dir old) new refl entered.damage;
+      damage = entered_damage ending dir old new entered.damage;
       headline = λ db held. entered_in_order db dir old (after_enter dir old) new refl (entered.headline db) held;
       stands = λ db held. entered_stands db ending dir old new formed (entered.stands db held);
       idle = λ db held none changes. entered_idle dir old new (entered.idle db held none changes);
@@ -122,22 +111,35 @@ module _ (db : Db) (statements : List (List ℕ)) where
 -- # The opening
 
 -- what stands where it stopped
-pub stands_opening : (db : Db) (ending : Ending) (files later : Files) (old new : World) → StopsOpening ending (HoldsIn files) (HoldsIn later) → HoldsIn files db
+pub stands_opening : (db : Db) (ending : Ending) (files later : Files) (old new : World) → StopsOpening ending files later → HoldsIn files db
     → new.now.said ≡ old.now.said → EachImage new.now.fs (λ files. HoldsIn files db) → StandsAt db ending old new
 stands_opening db NoMemory files later old new stops held said holds = (0, stands_none db (statements old.input) old.now.said new said holds)
 stands_opening db DiskFault files later old new stops held said holds = (0, keeping_none db (statements old.input) old.now.said new said holds)
-stands_opening db (Damaged name place) files later old new stops held said holds = stops.2 db held
+stands_opening db (Damaged name place) files later old new stops held said holds = absurd (stops.1 db held)
 stands_opening db Done files later old new stops held said holds = absurd stops
 stands_opening db Usage files later old new stops held said holds = absurd stops
 stands_opening db InputFault files later old new stops held said holds = absurd stops
 stands_opening db OutputFault files later old new stops held said holds = absurd stops
 stands_opening db TooLong files later old new stops held said holds = absurd stops
 
+unopened : {X : Type 0} → false ≡ true → X
+unopened bad = absurd (cc)
+
+-- no damage is told of a fault of the directory, or of want of memory
+pub tells_fault : (old new : World) → TellsDamage DiskFault old new
+tells_fault old new = record { damage = tt; opened = unopened }
+
+tells_memory : (old new : World) → TellsDamage NoMemory old new
+tells_memory old new = record { damage = tt; opened = unopened }
+
 -- what is told of damage where it stopped
-pub tells_opening : (ending : Ending) (old new : World) → IsQuiet old new (AsBeforeBut old.now.fs shadow_name) → StopsOpening ending (HoldsIn (shown old.now.fs)) (HoldsIn (shown new.now.fs)) → TellsDamage ending old new
-tells_opening NoMemory old new quiet stops = tt
-tells_opening DiskFault old new quiet stops = tt
-tells_opening (Damaged name place) old new quiet stops = (stops.0, stops.1, quiet.said, stops.2, stops.3, since_weaken old new _ _ (λ m h. h.1) quiet.since)
+pub tells_opening : (ending : Ending) (old new : World) → IsQuiet old new (AsBeforeBut old.now.fs shadow_name) → StopsOpening ending (shown old.now.fs) (shown new.now.fs) → TellsDamage ending old new
+tells_opening NoMemory old new quiet stops = tells_memory old new
+tells_opening DiskFault old new quiet stops = tells_fault old new
+tells_opening (Damaged name place) old new quiet stops = record {
+  damage = record { bad = stops.0; none = stops.1; said = quiet.said; others = since_weaken old new _ _ (λ m h. h.1) quiet.since };
+  opened = unopened;
+}
 tells_opening Done old new quiet stops = absurd stops
 tells_opening Usage old new quiet stops = absurd stops
 tells_opening InputFault old new quiet stops = absurd stops
@@ -170,19 +172,19 @@ stands_at db InputFault too_long old new stands excess taken = absurd stands
 
 -- where the directory holds a database, a run that answered what was taken tells of no damage
 pub tells_taken : (ending : Ending) (too_long : Bool) (statements : List (List ℕ)) (before : List ℕ) (session db : Db) (old new : World) → StandsTaken ending too_long session statements before new → HoldsIn (shown old.now.fs) db → TellsDamage ending old new
-tells_taken Done too_long statements before session db old new stands held = (db, held)
-tells_taken TooLong too_long statements before session db old new stands held = (db, held)
-tells_taken OutputFault too_long statements before session db old new stands held = (db, held)
-tells_taken NoMemory too_long statements before session db old new stands held = tt
-tells_taken DiskFault too_long statements before session db old new stands held = tt
+tells_taken Done too_long statements before session db old new stands held = record { damage = tt; opened = λ opened. (db, held) }
+tells_taken TooLong too_long statements before session db old new stands held = record { damage = tt; opened = λ opened. (db, held) }
+tells_taken OutputFault too_long statements before session db old new stands held = record { damage = tt; opened = λ opened. (db, held) }
+tells_taken NoMemory too_long statements before session db old new stands held = tells_memory old new
+tells_taken DiskFault too_long statements before session db old new stands held = tells_fault old new
 tells_taken Usage too_long statements before session db old new stands held = absurd stands
 tells_taken (Damaged name place) too_long statements before session db old new stands held = absurd stands
 tells_taken InputFault too_long statements before session db old new stands held = absurd stands
 
 -- nor does one whose input could not be taken
 pub tells_stopped : (ending : Ending) (db : Db) (old w new : World) → StopsTaking ending w new → HoldsIn (shown old.now.fs) db → TellsDamage ending old new
-tells_stopped InputFault db old w new stops held = (db, held)
-tells_stopped NoMemory db old w new stops held = tt
+tells_stopped InputFault db old w new stops held = record { damage = tt; opened = λ opened. (db, held) }
+tells_stopped NoMemory db old w new stops held = tells_memory old new
 tells_stopped Done db old w new stops held = absurd stops
 tells_stopped TooLong db old w new stops held = absurd stops
 tells_stopped OutputFault db old w new stops held = absurd stops

@@ -12,7 +12,8 @@ use Rattle.pt_flat.specs.declared.data.Db.{Db}
 use Rattle.pt_flat.specs.declared.data.Stmt.{Stmt}
 use Rattle.pt_engine.specs.Reading.{Reads}
 use Rattle.pt_engine.specs.Answers.{HoldsAfter, ChangesNothing, after_one, answer_to, answers, changes}
-use Rattle.pt_engine.specs.Kept.{HoldsIn, IsInOrder, KeepsInOrder, StandsAfter}
+use Rattle.pt_table_files.specs.Directory.{HoldsIn}
+use Rattle.pt_engine.specs.Kept.{IsInOrder, KeepsInOrder, StandsAfter}
 use Rattle.pt_engine.specs.Session.{IsSession, IsWithin}
 use Rattle.pt_engine.specs.Saying.{EntersNothing, KeepsOne, AnswersOne, StandsOne, StopsOne, AnswersFirst, StandsFirst, StopsFirst}
 use Rattle.pt_engine.proofs.AnswerLemmas.{says_whole, says_up_to, says_part, holds_push, first_push, answers_more, after_all-append}

@@ -6,11 +6,11 @@ use Rattle.pt_flat.specs.declared.data.Reply.{Reply}
 use Rattle.pt_host.specs.Disk.{Fs, Files, EachImage}
 use Rattle.pt_host.specs.World.{World, after_say, FailedSay, Since, IsQuiet, IsIdle}
 use Rattle.pt_host.proofs.Runs.{since_then, since_weaken, since_say, after_say_now, after_say_dir, after_say_input, quiet_none, quiet_weaken, idle_none, idle_say}
-use Rattle.pt_store.specs.Left.{IsLeft}
+use Rattle.pt_left.specs.Left.{IsLeft}
 use Rattle.pt_store.proofs.Moments.{store_kept}
 use Rattle.pt_flat.specs.declared.data.Db.{Db}
 use Rattle.pt_engine.specs.declared.session.Session.{Session}
-use Rattle.pt_engine.specs.Kept.{HoldsIn}
+use Rattle.pt_table_files.specs.Directory.{HoldsIn}
 use Rattle.pt_engine.specs.Session.{IsSession, IsWithin}
 use Rattle.pt_flat.specs.declared.data.Stmt.{Stmt}
 use Rattle.pt_engine.specs.declared.ending.Ending.{Ending}

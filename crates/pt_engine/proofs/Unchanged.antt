@@ -7,7 +7,7 @@ use Rattle.pt_flat.specs.declared.data.Stmt.{Stmt}
 use Rattle.pt_flat.specs.declared.data.Stmt.TheVariants.{Create, Insert, Select}
 use Rattle.pt_flat.specs.Step.{refusal, reply_to, changed, answer, has_table}
 use Rattle.pt_flat.specs.Answer.{table_exists}
-use Rattle.pt_flat.proofs.Pairs.{all_right}
+use Rattle.pt_plain.proofs.Pairs.{all_right}
 use Rattle.pt_engine.specs.Reading.{Reads}
 use Rattle.pt_engine.specs.Answers.{AreFirst, ChangesNothing, after_one, after_all, changes}
 use Rattle.pt_engine.proofs.AnswerLemmas.{first_push}

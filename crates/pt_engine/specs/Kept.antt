@@ -1,19 +1,10 @@
 -- What a directory holds while a script is executed.
-use Rattle.std.specs.Prelude.{◌⊎◌, ℕ, ◌+◌, ◌≤◌, List, []}
+use Rattle.std.specs.Prelude.{◌⊎◌, ℕ, ◌+◌, ◌≤◌, List}
 use Rattle.pt_host.specs.Disk.{Files, EachImage}
 use Rattle.pt_host.specs.World.{World, Since}
-use Rattle.pt_store.specs.Left.{Left}
 use Rattle.pt_flat.specs.declared.data.Db.{Db}
-use Rattle.pt_table_files.specs.Holds.{Holds}
+use Rattle.pt_table_files.specs.Directory.{HoldsIn}
 use Rattle.pt_engine.specs.Answers.{HoldsAfter, SaysWhole, SaysUpTo}
-
--- The directory stands for a map of files that holds the database.
-abbrev pub HoldsIn : Files → Db → Type 0
-HoldsIn files db = (map : List (List ℕ × List ℕ)) × Left files map × Holds map db
-
--- the database without tables
-abbrev pub empty_db : Db
-empty_db = record { tables = []; next = 1 }
 
 -- The directory holds the database after the first k statements, where of what was said since then the answers to k - 1 of
 -- them are whole, and nothing is past the k-th's.

@@ -2,14 +2,15 @@
 use Rattle.std.specs.Prelude.{◌≡◌, ℕ, Bool, true, false, List, length, None}
 use Rattle.pt_host.specs.Disk.{shown}
 use Rattle.pt_host.specs.World.{World, IsIdle}
-use Rattle.pt_store.specs.Left.{shadow_name}
+use Rattle.pt_left.specs.Left.{shadow_name}
 use Rattle.pt_flat.specs.declared.data.Db.{Db}
 use Rattle.pt_engine.specs.declared.ending.Ending.{Ending}
 use Rattle.pt_engine.specs.declared.ending.Ending.TheVariants.{Done, DiskFault, NoMemory, OutputFault, TooLong}
 use Rattle.pt_engine.specs.declared.input.Taken.{Taken}
 use Rattle.pt_engine.specs.Answers.{ChangesNothing}
 use Rattle.pt_engine.specs.Script.{statements}
-use Rattle.pt_engine.specs.Kept.{HoldsIn, KeepsInOrder, StandsAfter, StandsKeeping, StandsSaying}
+use Rattle.pt_table_files.specs.Directory.{HoldsIn}
+use Rattle.pt_engine.specs.Kept.{KeepsInOrder, StandsAfter, StandsKeeping, StandsSaying}
 use Rattle.pt_engine.specs.Saying.{EntersNothing}
 use Rattle.pt_engine.specs.Run.{StandsAt, TellsDamage}
 

@@ -2,6 +2,8 @@
 use Rattle.std.specs.Prelude.{◌≡◌, ◌⊎◌, ℕ, false, List, ◌++◌, Option, Result, Ok, Err}
 use Rattle.pt_host.specs.Disk.{EachImage}
 use Rattle.pt_host.specs.World.{World, Since, IsQuiet, IsIdle}
+use Rattle.pt_host.specs.Listed.{FileList}
+use Rattle.pt_left.specs.Left.{IsLeft}
 use Rattle.pt_flat.specs.declared.data.Db.{Db}
 use Rattle.pt_flat.specs.declared.data.Stmt.{Stmt}
 use Rattle.pt_engine.specs.declared.session.Session.{Session}
@@ -9,7 +11,8 @@ use Rattle.pt_engine.specs.declared.ending.Ending.{Ending}
 use Rattle.pt_engine.specs.declared.ending.Ending.TheVariants.{DiskFault, NoMemory, OutputFault}
 use Rattle.pt_engine.specs.Reading.{Reads}
 use Rattle.pt_engine.specs.Answers.{AreFirst, ChangesNothing, after_one, answer_to, after_all, answers, changes}
-use Rattle.pt_engine.specs.Kept.{HoldsIn, KeepsInOrder, StandsAfter, StandsKeeping, StandsSaying}
+use Rattle.pt_table_files.specs.Directory.{HoldsIn}
+use Rattle.pt_engine.specs.Kept.{KeepsInOrder, StandsAfter, StandsKeeping, StandsSaying}
 use Rattle.pt_engine.specs.Session.{IsOpen, IsSession, IsWithin}
 
 -- nothing is entered, and nothing taken
@@ -34,6 +37,12 @@ Leaves after old new (Ok x) = IsSession after new
 Leaves after old new (Err NoMemory) = new ≡ old
 Leaves after old new (Err DiskFault) = Unit {0}
 Leaves after old new (Err _) = ⊥
+
+-- The session's database was to be kept in the place of what this map held: each image of each moment stands for that map,
+-- or holds the database.
+pub record Keeps {T : Type 0} (after : Session) (map : FileList) (old new : World) (result : Result T Ending) : Type 0 where
+  pub moments : IsQuiet old new (λ files. IsLeft map files ⊎ HoldsIn files after.db)
+  pub leaves : Leaves after old new result
 
 -- At each moment each image holds the database before it or the one after it. Where it changes nothing, nothing is done.
 pub record KeepsStatement {T : Type 0} (reading : Option Stmt) (db : Db) (after : Session) (old new : World) (result : Result T Ending) : Type 0 where

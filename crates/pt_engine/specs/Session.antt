@@ -1,8 +1,8 @@
 -- A session: the store of a directory, and the database that it holds.
 use Rattle.std.specs.Prelude.{◌≡◌, ◌⊎◌, ℕ, List, ◌++◌, IsTrue}
+use Rattle.pt_host.specs.Listed.{FileList, by_name}
 use Rattle.pt_host.specs.Disk.{Files, shown}
 use Rattle.pt_host.specs.World.{World}
-use Rattle.pt_store.specs.Left.{whole_name}
 use Rattle.pt_store.specs.Store.{is_live, IsStore}
 use Rattle.pt_flat.specs.declared.data.Db.{Db}
 use Rattle.pt_flat.specs.Sound.{IsSound}
@@ -10,7 +10,7 @@ use Rattle.pt_table_files.specs.Holds.{Holds}
 use Rattle.pt_engine.specs.declared.session.Session.{Session}
 use Rattle.pt_engine.specs.declared.ending.Ending.{Ending}
 use Rattle.pt_engine.specs.declared.ending.Ending.TheVariants.{DiskFault, NoMemory, Damaged}
-use Rattle.pt_engine.specs.Kept.{HoldsIn}
+use Rattle.pt_table_files.specs.Directory.{HoldsIn, HoldsNone, Bad}
 
 -- what holds of each session that hasn't failed
 pub record IsOpen (session : Session) : Type 0 where
@@ -19,22 +19,22 @@ pub record IsOpen (session : Session) : Type 0 where
 
 -- The session stands for its database over this host: each image holds it.
 pub record IsSession (session : Session) (w : World) : Type 0 where
-  pub map : List (List ℕ × List ℕ)
+  pub map : FileList
   pub store : IsStore session.store map w
-  pub holds : Holds map session.db
+  pub holds : Holds (by_name map) session.db
 
 -- A session was opened: it stands for the database that the directory held.
 pub record IsOpened (old new : World) (session : Session) : Type 0 where
   pub held : HoldsIn (shown old.now.fs) session.db
   pub stands : IsSession session new
 
--- Where it isn't opened, and the directory reads so before and then: memory was wanting, the directory failed, or there is
--- damage, which is told of `whole.map` at its first byte, and only where no database is held, before and then.
-abbrev pub StopsOpening : Ending → (Db → Type 0) → (Db → Type 0) → Type 0
-StopsOpening NoMemory Held Holding = Unit {0}
-StopsOpening DiskFault Held Holding = Unit {0}
-StopsOpening (Damaged name place) Held Holding = (name ≡ whole_name) × (place ≡ 0) × ((db : Db) → Held db → ⊥) × ((db : Db) → Holding db → ⊥)
-StopsOpening _ Held Holding = ⊥
+-- Where it isn't opened, and the files read so before and then: memory was wanting, the directory failed, or there is damage,
+-- then and before.
+abbrev pub StopsOpening : Ending → Files → Files → Type 0
+StopsOpening NoMemory before now = Unit {0}
+StopsOpening DiskFault before now = Unit {0}
+StopsOpening (Damaged name place) before now = Bad now name place × HoldsNone before
+StopsOpening _ before now = ⊥
 
 -- Within one statement: the database before it with nothing of its answer said, or the one after it with a part of it said.
 abbrev pub IsWithin : Db → Db → List ℕ → List ℕ → List ℕ → Files → Type 0

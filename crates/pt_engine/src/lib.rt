@@ -7,19 +7,19 @@
 //!   clause `headline`; `KeepsInOrder` of `specs/Kept.antt`).
 //! - What is printed and held at each ending (`stands`), when each ending comes (`usage`, `causes`, `damage`, `complete`), and
 //!   that no other directory is entered (`dir`).
-//! - A directory holds one database at most (`holds_one_database`), and a piece spells one statement at most (`one_reading`).
+//! - A piece spells one statement at most (`one_reading`). That a directory holds one database at most is a law of
+//!   `pt_table_files`.
 //!
 //! `symbols` and `reader` read a piece, `script` cuts the input, `input` takes it, `session` opens the directory and keeps a
 //! database in it, `answers` answers statement by statement, `program` is the top call, `ending` the status and the line.
 //!
-//! It stands on `pt_store` and `pt_table_files` for the directory, `pt_flat` for the model, `pt_host` and `pt_plain`, and on
-//! `itoa`.
+//! It stands on `pt_store`, `pt_left` and `pt_table_files` for the directory, `pt_flat` for the model, `pt_host` and
+//! `pt_plain`, and on `itoa`.
 #![tactic(auto)]
 
 mod answers;
 mod ending;
 mod input;
-mod law;
 mod program;
 mod reader;
 mod script;
@@ -27,6 +27,5 @@ mod session;
 mod symbols;
 
 pub use ending::{Ending, code, line};
-pub use law::holds_one_database;
 pub use program::run;
 pub use reader::one_reading;

@@ -1,19 +1,19 @@
 //! The session: the store of the directory that was entered, and the database that it holds.
-ghost use Rattle.std.specs.Prelude.{◌≡◌, ◌⊎◌, ◌≤◌, ◌<◌, ℕ, List as Listed, length, IfOk, IfErr, IfSome, IfNone, OnOk, Err, Some, IsSome, IsTrue, slice_get, None};
-ghost use Rattle.pt_host.specs.Disk.{IsAtRest, EachImage, shown};
-ghost use Rattle.pt_host.specs.Listed.{AreRising};
-ghost use Rattle.pt_host.specs.World.{IsQuiet, OnlyLooks};
-ghost use Rattle.pt_host.specs.Replacement.{AsBeforeBut};
+ghost use Rattle.std.specs.Prelude.{◌≡◌, ◌<◌, length, IfOk, IfErr, IfSome, IfNone, OnOk, Some, IsSome, IsTrue, slice_get};
+ghost use Rattle.pt_host.specs.Disk.{IsAtRest, shown};
+ghost use Rattle.pt_host.specs.Listed.{FileList, AreRising, by_name};
+ghost use Rattle.pt_host.specs.World.{OnlyLooks};
 ghost use Rattle.pt_engine.specs.Causes.{HasCauses};
-ghost use Rattle.pt_store.specs.Left.{IsLeft, shadow_name, whole_name};
+ghost use Rattle.pt_left.specs.Left.{IsWhole, whole_name};
 ghost use Rattle.pt_store.specs.Store.{is_live, IsStore, IsStanding, sizes};
 ghost use Rattle.pt_store.specs.Stops.{IsCounted, IfBad};
+ghost use Rattle.pt_store.specs.Step.{OnlyClears};
 ghost use Rattle.pt_flat.specs.declared.data.Db.{Db};
 ghost use Rattle.pt_table_files.specs.Holds.{Holds};
 
 use crate::Ending;
 use pt_flat::Db;
-use pt_host::{Files, Host, Image, Name};
+use pt_host::{FileList, Host, Image, Name};
 use pt_plain::List;
 use pt_store::{Stop, Store};
 use pt_table_files::{db_of, files_of};
@@ -27,9 +27,8 @@ pub(crate) struct Session {
 }
 
 impl Session {
-    ghost use Rattle.pt_engine.specs.Kept.{HoldsIn};
     ghost use Rattle.pt_engine.specs.Session.{IsOpen, IsSession, IsOpened, StopsOpening};
-    ghost use Rattle.pt_engine.specs.Saying.{Leaves};
+    ghost use Rattle.pt_engine.specs.Saying.{Keeps};
 
     /// Opens the directory that was entered.
     pub(crate) fn begin<H: Host>(alloc: Global, host: &mut H) -> Result<Session, Ending>
@@ -37,10 +36,8 @@ impl Session {
         requires at_rest { H.tells → IsAtRest (H.world host.old).now.fs }
         ensures open { IfOk result (λ session. IsOpen session) }
         ensures opened { IfOk result (λ session. H.tells → IsOpened (H.world host.old) (H.world host.new) session) }
-        ensures left { H.tells → (files : Listed (Listed ℕ × Listed ℕ)) → EachImage (H.world host.old).now.fs (IsLeft files) → IsQuiet (H.world host.old) (H.world host.new) (IsLeft files) }
-        ensures quiet { H.tells → IsQuiet (H.world host.old) (H.world host.new) (AsBeforeBut (H.world host.old).now.fs shadow_name) }
-        ensures looks { H.tells → shown (H.world host.old).now.fs shadow_name ≡ None → OnlyLooks (H.world host.old) (H.world host.new) }
-        ensures stops { IfErr result (λ ending. H.tells → StopsOpening ending (HoldsIn (shown (H.world host.old).now.fs)) (HoldsIn (shown (H.world host.new).now.fs))) }
+        ensures clears { H.tells → OnlyClears (H.world host.old) (H.world host.new) }
+        ensures stops { IfErr result (λ ending. H.tells → StopsOpening ending (shown (H.world host.old).now.fs) (shown (H.world host.new).now.fs)) }
         ensures counts { HasCauses (H.counts host.old) (H.counts host.new) result }
     {
         let store = Store::attach(alloc, host)?;
@@ -57,12 +54,11 @@ impl Session {
         requires stands { H.tells → IsStanding self.old.store (H.world host.old) }
         ensures open { OnOk result (IsOpen self.new) }
         ensures db { self.new.db ≡ self.old.db }
-        ensures stands { H.tells → Leaves self.new (H.world host.old) (H.world host.new) result }
-        ensures left { H.tells → (files : Listed (Listed ℕ × Listed ℕ)) → IsStore self.old.store files (H.world host.old) → IsQuiet (H.world host.old) (H.world host.new) (λ directory. IsLeft files directory ⊎ HoldsIn directory self.old.db) }
+        ensures told { H.tells → (files : FileList) → IsStore self.old.store files (H.world host.old) → Keeps self.new files (H.world host.old) (H.world host.new) result }
         ensures counts { HasCauses (H.counts host.old) (H.counts host.new) result }
     {
         let files = files_of(alloc, &self.db)?;
-        match self.store.replace(alloc, host, &files) {
+        match self.store.replace(host, &files) {
             Ok(()) => Ok(()),
             Err(Stop::NoMemory) => Err(Ending::NoMemory),
             Err(Stop::Fault) => Err(Ending::DiskFault),
@@ -72,46 +68,41 @@ impl Session {
 }
 
 /// All files of the store's map.
-fn read_all<H: Host>(alloc: Global, store: &Store, host: &mut H) -> Result<Files, Stop>
+fn read_all<H: Host>(alloc: Global, store: &Store, host: &mut H) -> Result<FileList, Stop>
     requires live { IsTrue (is_live store.now) }
     requires stands { H.tells → IsStanding store.now (H.world host.old) }
-    ensures read { IfOk result (λ all. H.tells → (files : Listed (Listed ℕ × Listed ℕ)) → IsStore store.now files (H.world host.old) → all ≡ files) }
+    ensures read { IfOk result (λ all. H.tells → (files : FileList) → IsStore store.now files (H.world host.old) → all ≡ files) }
     ensures looks { H.tells → OnlyLooks (H.world host.old) (H.world host.new) }
-    ensures bad { IfBad result (λ name place. (name ≡ whole_name) × (place ≡ 0) × (H.tells → ⊥)) }
+    ensures bad { IfBad result (λ name place. IsWhole name place × (H.tells → ⊥)) }
     ensures counts { IsCounted (H.counts host.old) (H.counts host.new) result }
 {
     let mut files = List::new(alloc);
     for i in 0..store.count() {
-        let file = read_file(alloc, store, host, i)?;
+        let file = read_file(store, host, i)?;
         files.push(file)?;
     }
     Ok(files)
 }
 
 /// The i-th file of the store's map.
-fn read_file<H: Host>(
-    alloc: Global,
-    store: &Store,
-    host: &mut H,
-    i: usize,
-) -> Result<(Name, List<u8>), Stop>
+fn read_file<H: Host>(store: &Store, host: &mut H, i: usize) -> Result<(Name, List<u8>), Stop>
     requires live { IsTrue (is_live store.now) }
     requires within { i < length (sizes store.now) }
     requires stands { H.tells → IsStanding store.now (H.world host.old) }
-    ensures read { IfOk result (λ file. H.tells → (files : Listed (Listed ℕ × Listed ℕ)) → IsStore store.now files (H.world host.old) → slice_get files i ≡ Some file) }
+    ensures read { IfOk result (λ file. H.tells → (files : FileList) → IsStore store.now files (H.world host.old) → slice_get files i ≡ Some file) }
     ensures looks { H.tells → OnlyLooks (H.world host.old) (H.world host.new) }
-    ensures bad { IfBad result (λ name place. (name ≡ whole_name) × (place ≡ 0) × (H.tells → ⊥)) }
+    ensures bad { IfBad result (λ name place. IsWhole name place × (H.tells → ⊥)) }
     ensures counts { IsCounted (H.counts host.old) (H.counts host.new) result }
 {
     let name = store.name_at(i).unwrap();
-    let bytes = store.read(alloc, host, &name)?;
+    let bytes = store.read(host, &name)?;
     Ok((name, List::of(bytes)))
 }
 
 /// The database that files hold. `None` exactly where they hold none.
-fn database_of(alloc: Global, files: Files) -> Result<Option<Db>, AllocError>
-    ensures some { IfOk result (λ found. IfSome found (λ db. Holds files db)) }
-    ensures none { IfOk result (λ found. AreRising files → IfNone found ((db : Db) → Holds files db → ⊥)) }
+fn database_of(alloc: Global, files: FileList) -> Result<Option<Db>, AllocError>
+    ensures some { IfOk result (λ found. IfSome found (λ db. Holds (by_name files) db)) }
+    ensures none { IfOk result (λ found. AreRising files → IfNone found ((db : Db) → Holds (by_name files) db → ⊥)) }
 {
     match Image::of(files) {
         None => Ok(None),
@@ -123,8 +114,8 @@ fn database_of(alloc: Global, files: Files) -> Result<Option<Db>, AllocError>
 fn damaged() -> Ending
     ensures { result ≡ Ending.Damaged whole_name 0 }
 {
-    match Name::of(b"whole.map") {
-        Some(name) => Ending::Damaged { name, place: 0 },
-        None => unreachable!(),
+    Ending::Damaged {
+        name: pt_left::whole(),
+        place: 0,
     }
 }

@@ -132,7 +132,6 @@ fn word_bytes_text(alloc: Global, bytes: &[u8]) -> Result<String, AllocError> {
 }
 
 fn laws_text(alloc: Global) -> Result<String, AllocError> {
-    pt_engine::holds_one_database();
     pt_engine::one_reading();
     String::from_str(alloc, "called")
 }

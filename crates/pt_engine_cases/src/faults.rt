@@ -53,7 +53,7 @@ pub fn shadowed_trial_of(alloc: Global, text: &str) -> Result<Trial<'_>, AllocEr
 fn directory_after(alloc: Global, script: &str) -> Result<Image, AllocError> {
     let empty = no_files(alloc)?;
     let (_, host) = host_after(alloc, &empty, script.as_bytes(), Fault::Never, false)?;
-    host.image_pick(alloc, 0)
+    host.image_pick(0)
 }
 
 fn behind_space(alloc: Global, script: &str) -> Result<Vec<u8>, AllocError> {
@@ -89,7 +89,7 @@ impl Trial<'_> {
         host: &MemHost,
         choice: u64,
     ) -> Result<Vec<u8>, AllocError> {
-        let image = host.image_pick(alloc, choice)?;
+        let image = host.image_pick(choice)?;
         said_over(alloc, &image, self.query.as_bytes())
     }
 }

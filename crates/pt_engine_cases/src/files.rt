@@ -1,13 +1,13 @@
 //! The directory that a run begins with.
 use crate::text::{bytes_of, push_bytes};
-use pt_host::{Files, Image, Name};
+use pt_host::{FileList, Image, Name};
 use pt_memhost::MemHost;
 use pt_plain::List;
 use std::alloc::{AllocError, Global};
 
 /// An empty directory.
 pub fn no_files(alloc: Global) -> Result<Image, AllocError> {
-    MemHost::empty(alloc, b"")?.image_pick(alloc, 0)
+    MemHost::empty(alloc, b"")?.image_pick(0)
 }
 
 /// The file that a word `NAME=BYTES` writes.
@@ -87,7 +87,7 @@ pub fn shadowed(alloc: Global, directory: Image) -> Result<Image, AllocError> {
     }
 }
 
-fn with_shadow(alloc: Global, mut files: Files) -> Result<Files, AllocError> {
+fn with_shadow(alloc: Global, mut files: FileList) -> Result<FileList, AllocError> {
     let bytes = List::from_slice(alloc, b"part")?;
     match Name::of(b"whole.map.new") {
         None => Ok(files),
@@ -99,7 +99,7 @@ fn with_shadow(alloc: Global, mut files: Files) -> Result<Files, AllocError> {
 }
 
 /// The length of the last file.
-pub fn last_length(files: &Files) -> usize {
+pub fn last_length(files: &FileList) -> usize {
     match files.items().last() {
         None => 0,
         Some((_, bytes)) => bytes.items().len(),

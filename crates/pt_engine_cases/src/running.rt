@@ -26,7 +26,7 @@ fn order(alloc: Global, host: &mut MemHost, fault: Fault) -> Result<(), AllocErr
 {
     match fault {
         Fault::Never => {}
-        Fault::At(number) => host.fail_calls(List::from_slice(alloc, &[number])?),
+        Fault::At(number) => host.fail_calls(Vec::from_slice(alloc, &[number])?),
         Fault::From(number) => host.fuse(number),
     }
     Ok(())
@@ -148,7 +148,7 @@ fn said_by(alloc: Global, ending: &Ending, host: &MemHost) -> Result<Vec<u8>, Al
 /// A run over the directory, which becomes the one that the run leaves.
 pub fn run_text(alloc: Global, directory: &mut Image, input: &[u8]) -> Result<String, AllocError> {
     let (ending, host) = host_after(alloc, directory, input, Fault::Never, false)?;
-    *directory = host.image_pick(alloc, 0)?;
+    *directory = host.image_pick(0)?;
     ran_text(alloc, &ending, &host)
 }
 
@@ -164,7 +164,7 @@ fn left_text(
     host: &MemHost,
     directory: &Image,
 ) -> Result<String, AllocError> {
-    let same = is_left(alloc, host, directory)?;
+    let same = is_left(host, directory)?;
     let mut text = ran_text(alloc, ending, host)?;
     let written = host.written();
     let files = if same { "same" } else { "changed" };
@@ -172,8 +172,8 @@ fn left_text(
     Ok(text)
 }
 
-fn is_left(alloc: Global, host: &MemHost, directory: &Image) -> Result<bool, AllocError> {
-    let left = host.image_pick(alloc, 0)?;
+fn is_left(host: &MemHost, directory: &Image) -> Result<bool, AllocError> {
+    let left = host.image_pick(0)?;
     Ok(left.files == directory.files)
 }
 

@@ -5,12 +5,13 @@ use Rattle.std.specs.Str.{bytes_eq}
 use Rattle.std.proofs.lemmas.Cmp.{nat_list_eq_equiv}
 use Rattle.std.proofs.lemmas.Map.Views.{Contains-from_any, list_any-from_Contains}
 use Rattle.std.proofs.lemmas.Slice.Eq.{bytes_eq-Decides}
+use Rattle.pt_host.specs.Listed.{FileList}
 
-tested : (files : List (List ℕ × List ℕ)) (name : List ℕ) → list_any (λ file. bytes_eq name file.0) files ≡ list_any (bytes_eq name) (map (λ file. file.0) files)
+tested : (files : FileList) (name : List ℕ) → list_any (λ file. bytes_eq name file.0) files ≡ list_any (bytes_eq name) (map (λ file. file.0) files)
 tested [] name = refl
 tested (file ∷ files) name = ap (λ rest. bytes_eq name file.0 || rest) (tested files name)
 
-pub has_name : (files : List (List ℕ × List ℕ)) (name : List ℕ) (found : Bool) → found ≡ list_any (λ file. bytes_eq name file.0) files → IsTrue found ↔ Contains (map (λ file. file.0) files) name
+pub has_name : (files : FileList) (name : List ℕ) (found : Bool) → found ≡ list_any (λ file. bytes_eq name file.0) files → IsTrue found ↔ Contains (map (λ file. file.0) files) name
 has_name files name found is =
     let same = is ∙ tested files name in (
       λ yes. Contains-from_any {eq = bytes_eq} (λ x y e. (bytes_eq-Decides x y).0 e) name (map (λ file. file.0) files) (sym same ∙ yes),

@@ -3,13 +3,13 @@ ghost use Rattle.std.specs.Prelude.{◌≡◌, IsTrue, IsSome, None, Contains, m
 ghost use Rattle.pt_host.specs.Disk.{IsAtRest};
 ghost use Rattle.pt_host.specs.Listed.{AreRising};
 ghost use Rattle.pt_memhost.specs.Memory.{world_in};
-ghost use Rattle.pt_store.specs.Left.{serials_name};
+ghost use Rattle.pt_left.specs.Left.{serials_name};
 ghost use Rattle.pt_store.specs.Store.{IsStanding, is_live};
 
 use crate::maps::{map_text, stop_text};
 use crate::replacing::has_serials;
 use crate::texts::{cut, image_of};
-use pt_host::{Files, Host, HostFail, Image, Name};
+use pt_host::{FileList, Host, HostFail, Image, Name};
 use pt_memhost::MemHost;
 use pt_plain::List;
 use pt_store::{Stop, Store};
@@ -76,16 +76,16 @@ fn replace_in(
     host.enter("d")?;
     let mut store = Store::attach(alloc, host)?;
     fail(alloc, host, order)?;
-    Ok(replaced(alloc, &mut store, host, &map.files))
+    Ok(replaced(&mut store, host, &map.files))
 }
 
-fn replaced(alloc: Global, store: &mut Store, host: &mut MemHost, files: &Files) -> &'static str
+fn replaced(store: &mut Store, host: &mut MemHost, files: &FileList) -> &'static str
     requires live { IsTrue (is_live store.old) }
     requires stands { IsStanding store.old (world_in host.old) }
     requires rising { AreRising files.now }
     requires serials { Contains (map (λ file. file.0) files.now) serials_name }
 {
-    let answer = store.replace(alloc, host, files);
+    let answer = store.replace(host, files);
     match (answer, store.is_live()) {
         (Ok(()), true) => "done live",
         (Ok(()), false) => "done spent",
@@ -111,7 +111,7 @@ fn fail_call(alloc: Global, host: &mut MemHost, number: u64) -> Result<(), Alloc
     ensures { world_in host.new ≡ world_in host.old }
 {
     let number = host.calls().saturating_add(number);
-    let numbers = List::from_slice(alloc, &[number])?;
+    let numbers = Vec::from_slice(alloc, &[number])?;
     host.fail_calls(numbers);
     Ok(())
 }
@@ -146,6 +146,6 @@ fn images_text(alloc: Global, host: &MemHost, old: &str, new: &str) -> Result<St
 
 /// The map that an image stands for.
 fn image_text(alloc: Global, host: &MemHost, choice: u64) -> Result<String, AllocError> {
-    let image = host.image_pick(alloc, choice)?;
+    let image = host.image_pick(choice)?;
     map_text(alloc, &image)
 }

@@ -91,7 +91,7 @@ fn answer_about(
 }
 
 fn laws() {
-    pt_store::stands_for_one_map();
+    pt_left::stands_for_one_map();
     pt_table_files::one_database();
-    pt_table_files::no_files();
+    pt_table_files::holds_one_database();
 }

@@ -48,7 +48,7 @@ pub(crate) fn read_all(alloc: Global, store: &Store, host: &mut MemHost) -> Resu
     let mut text = format!(in alloc; "map {count}")?;
     for i in 0..count {
         if let Some(name) = store.name_at(i) {
-            push_read(alloc, &mut text, store, host, &name)?;
+            push_read(&mut text, store, host, &name)?;
         }
     }
     if store.name_at(count).is_some() {
@@ -58,13 +58,7 @@ pub(crate) fn read_all(alloc: Global, store: &Store, host: &mut MemHost) -> Resu
 }
 
 /// Adds the file of this name, of which as many bytes are read as the store says.
-fn push_read(
-    alloc: Global,
-    text: &mut String,
-    store: &Store,
-    host: &mut MemHost,
-    name: &Name,
-) -> Result<(), Stop>
+fn push_read(text: &mut String, store: &Store, host: &mut MemHost, name: &Name) -> Result<(), Stop>
     requires live { IsTrue (is_live store.now) }
     requires stands { IsStanding store.now (world_in host.old) }
     ensures { OnOk result (IsStanding store.now (world_in host.new)) }
@@ -73,7 +67,7 @@ fn push_read(
         text.push_str(" no length")?;
         return Ok(());
     };
-    let bytes = store.read(alloc, host, name)?;
+    let bytes = store.read(host, name)?;
     if bytes.len() as u64 != length {
         text.push_str(" another length")?;
     }
@@ -138,7 +132,7 @@ fn pending_text(alloc: Global, host: &MemHost) -> Result<String, AllocError> {
 
 /// The files that a stop leaves by the first choice, after a word.
 pub(crate) fn left_text(alloc: Global, host: &MemHost, word: &str) -> Result<String, AllocError> {
-    let image = host.image_pick(alloc, 0)?;
+    let image = host.image_pick(0)?;
     files_text(alloc, word, image.files.items())
 }
 

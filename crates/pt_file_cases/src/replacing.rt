@@ -5,12 +5,12 @@ ghost use Rattle.std.specs.Str.{bytes_eq};
 ghost use Rattle.pt_host.specs.Disk.{IsAtRest};
 ghost use Rattle.pt_host.specs.Listed.{AreRising};
 ghost use Rattle.pt_memhost.specs.Memory.{world_in};
-ghost use Rattle.pt_store.specs.Left.{serials_name};
+ghost use Rattle.pt_left.specs.Left.{serials_name};
 ghost use Rattle.pt_store.specs.Store.{IsStanding, is_live};
 
 use crate::maps::{left_text, read_all, stop_text};
 use crate::texts::image_of;
-use pt_host::{Files, Host, Image, Name};
+use pt_host::{FileList, Host, Image, Name};
 use pt_memhost::MemHost;
 use pt_plain::List;
 use pt_store::{Stop, Store};
@@ -60,7 +60,7 @@ fn replace(
     alloc: Global,
     store: &mut Store,
     host: &mut MemHost,
-    files: &Files,
+    files: &FileList,
 ) -> Result<String, Stop>
     requires live { IsTrue (is_live store.old) }
     requires stands { IsStanding store.old (world_in host.old) }
@@ -68,7 +68,7 @@ fn replace(
     requires serials { Contains (map (λ file. file.0) files.now) serials_name }
 {
     let before = host.calls();
-    store.replace(alloc, host, files)?;
+    store.replace(host, files)?;
     let counts = counts_text(alloc, host, before, store.is_live())?;
     let map = read_all(alloc, store, host)?;
     Ok(format!(in alloc; "{counts} {map}")?)

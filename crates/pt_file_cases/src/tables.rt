@@ -4,7 +4,7 @@ ghost use Rattle.pt_flat.specs.Sound.{IsSound};
 
 use crate::texts::{bytes_of, bytes_text, files_text, image_of, push_bytes};
 use pt_flat::{Db, Rows, Stmt, Table, Word, step};
-use pt_host::Files;
+use pt_host::FileList;
 use pt_plain::List;
 use pt_table_files::{
     column_of, counter_bytes, db_of, definition_of, files_of, next_of, rows_bytes, rows_of,
@@ -25,7 +25,7 @@ pub(crate) fn directory_answer(
     }
 }
 
-fn held_text(alloc: Global, files: &Files) -> Result<String, AllocError>
+fn held_text(alloc: Global, files: &FileList) -> Result<String, AllocError>
     requires { AreRising files.now }
 {
     match db_of(alloc, files)? {
@@ -59,7 +59,7 @@ fn push_rows(text: &mut String, rows: &Rows) -> Result<(), AllocError> {
     Ok(())
 }
 
-fn again_text(alloc: Global, files: &Files) -> Result<String, AllocError>
+fn again_text(alloc: Global, files: &FileList) -> Result<String, AllocError>
     requires { AreRising files.now }
 {
     match db_of(alloc, files)? {

@@ -18,9 +18,9 @@ use Rattle.pt_flat.specs.declared.data.Stmt.TheVariants.{Create, Insert}
 use Rattle.pt_flat.specs.Word.{IsWord}
 use Rattle.pt_flat.specs.Step.{is_int, has_table, with_table, with_one, with_row, changed, after}
 use Rattle.pt_flat.specs.Sound.{IsSound, IsSoundTable, serials}
-use Rattle.pt_flat.proofs.Rising.{sorted_nil, sorted_push, passing_le, placed, rising_placed}
-use Rattle.pt_flat.proofs.Pairs.{all_left, all_right, all_flat_map, pairs_between}
-use Rattle.pt_flat.proofs.Updated.{one_changed}
+use Rattle.pt_plain.proofs.Rising.{sorted_nil, sorted_push, passing_le, placed, rising_placed}
+use Rattle.pt_plain.proofs.Pairs.{all_left, all_right, all_flat_map, pairs_between}
+use Rattle.pt_plain.proofs.Updated.{one_changed}
 use Rattle.pt_flat.proofs.Named.{none_ties, one_place, found_place}
 
 pub sound_empty : IsSound (record { tables = []; next = 1 })

@@ -6,7 +6,7 @@ pub mod Runs
 pub mod Writes
 pub mod Held
 pub mod Tears
-pub mod Rising
+pub mod Lookups
 pub mod Operations
 pub mod Shown
 pub mod Replacement

@@ -1,6 +1,6 @@
 -- File names: 1 to 160 bytes of ASCII letters, digits, '_', '$', '#' and '.', the first one no '.', so that no call can
 -- be made on `.` or `..` or on a path.
-use Rattle.std.specs.Prelude.{◌≢◌, ℕ, ◌<◌, ◌≤◌, Bool, ◌&&◌, ◌||◌, ◌==◌, nat_le, List, [], ◌∷◌, length, All, slice_index, IsTrue, nat_eq}
+use Rattle.std.specs.Prelude.{◌≢◌, ℕ, ◌<◌, ◌≤◌, Bool, ◌&&◌, ◌||◌, ◌==◌, nat_le, List, length, All, slice_index, IsTrue, nat_eq, codes}
 use Rattle.std.specs.List.{ends_with}
 
 abbrev pub is_name_byte : ℕ → Bool
@@ -12,13 +12,13 @@ pub record IsName (bytes : List ℕ) : Type 0 where
   pub each : All (λ b. IsTrue (is_name_byte b)) bytes
   pub first : slice_index bytes 0 ≢ 46
 
--- `.new`: the end of a shadow's name
+-- the end of a shadow's name
 abbrev pub shadow_end : List ℕ
-shadow_end = 46 ∷ 110 ∷ 101 ∷ 119 ∷ []
+shadow_end = codes ".new"
 
--- `.swap`: the end of a temporary name
+-- the end of a temporary name
 abbrev pub temp_end : List ℕ
-temp_end = 46 ∷ 115 ∷ 119 ∷ 97 ∷ 112 ∷ []
+temp_end = codes ".swap"
 
 -- A name that ends so is extra: it is no part of what the directory stands for.
 abbrev pub is_extra : List ℕ → Bool

@@ -6,19 +6,19 @@ use crate::Name;
 use pt_plain::List;
 
 /// Files with their names.
-pub type Files = List<(Name, List<u8>)>;
+pub type FileList = List<(Name, List<u8>)>;
 
 /// A directory at rest: its files in rising byte order of their names, each name once.
 #[derive(Debug, Drop)]
 pub struct Image {
-    pub files: Files,
+    pub files: FileList,
     pub ghost rising: { AreRising files } by { IsStrictlySortedBy-prop _ _ },
 }
 
 impl Image {
     /// The directory with these files. `None` exactly where their names don't rise in byte order, each once. It takes
     /// no memory.
-    pub fn of(files: Files) -> Option<Image>
+    pub fn of(files: FileList) -> Option<Image>
         ensures some { IsSome result ↔ AreRising files }
         ensures files { IfSome result (λ image. image.files ≡ files) }
     {

@@ -17,5 +17,5 @@ mod image;
 mod name;
 
 pub use host::{Host, HostFail};
-pub use image::{Files, Image};
+pub use image::{FileList, Image};
 pub use name::Name;

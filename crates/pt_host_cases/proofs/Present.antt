@@ -1,24 +1,11 @@
 -- The image with all pending names and present lengths has the files that are shown, with their lengths.
 use Rattle.std.proofs.Common.{◌≡◌, ◌∙◌, ℕ, suc, ◌+◌, ◌*◌, ◌/◌, ◌%◌, Bool, true, false, cond, List, [], ◌∷◌, length, length-take, take, refl, sym, ap, arith}
 use Rattle.std.specs.Prelude.{Option, Some, None}
-use Rattle.std.specs.List.{find}
 use Rattle.std.specs.Option.{option_map}
-use Rattle.std.specs.Str.{bytes_eq}
 use Rattle.std.proofs.Math.Seq.{take-length}
 use Rattle.std.proofs.lemmas.Nat.{div-mul-add, mod-mul-add}
 use Rattle.pt_host.specs.Disk.{Object, Fs, names_after, shown}
-use Rattle.pt_host.specs.Listed.{by_name}
 use Rattle.pt_memhost.specs.Pick.{filled, kept_by, left_by, picked}
-
--- a search gives the look-up
-pub found_file : (files : List (List ℕ × List ℕ)) (name : List ℕ) → option_map (λ (file : List ℕ × List ℕ). file.1) (find (λ file. bytes_eq file.0 name) files) ≡ by_name files name
-found_file [] name = refl
-found_file (file ∷ files) name = go (bytes_eq file.0 name) (found_file files name)
-  where
-    go : (t : Bool) → option_map (λ (f : List ℕ × List ℕ). f.1) (find (λ f. bytes_eq f.0 name) files) ≡ by_name files name
-        → option_map (λ (f : List ℕ × List ℕ). f.1) (cond t (Some file) (find (λ f. bytes_eq f.0 name) files)) ≡ cond t (Some file.1) (by_name files name)
-    go true e = refl
-    go false e = e
 
 length-filled : (fill : ℕ) (loose : List (ℕ × ℕ)) (place : ℕ) (bytes : List ℕ) → length (filled fill loose place bytes) ≡ length bytes
 length-filled fill loose place [] = refl

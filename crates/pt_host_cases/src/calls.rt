@@ -90,7 +90,7 @@ fn renamed<H: Stage>(alloc: Global, host: &mut H, rest: &str) -> Result<String, 
     if from == to {
         return String::from_str(alloc, "one name");
     }
-    if !host.has(alloc, &from, 0)? {
+    if !host.has(&from, 0)? {
         return String::from_str(alloc, "absent");
     }
     done_text(alloc, host.rename(&from, &to))
@@ -122,7 +122,7 @@ fn created<H: Stage>(alloc: Global, host: &mut H, name: &Name) -> Result<String,
     requires { H.tells → IsSome (H.world host.old).dir }
     ensures { H.tells → IsSome (H.world host.new).dir }
 {
-    if !host.lacks(alloc, name)? {
+    if !host.lacks(name)? {
         return String::from_str(alloc, "there");
     }
     done_text(alloc, host.create(name))
@@ -141,7 +141,7 @@ fn read<H: Stage>(
     let (Ok(at), Ok(count)) = (at.parse::<u64>(), count.parse::<u16>()) else {
         return String::from_str(alloc, "no number");
     };
-    if !host.has(alloc, name, 0)? {
+    if !host.has(name, 0)? {
         return String::from_str(alloc, "absent");
     }
     let mut bytes = Vec::from_elem(alloc, b'-', count as usize)?;
@@ -163,7 +163,7 @@ fn written<H: Stage>(
         return String::from_str(alloc, "no number");
     };
     let bytes = bytes_of(alloc, bytes)?;
-    if !host.has(alloc, name, at)? {
+    if !host.has(name, at)? {
         return String::from_str(alloc, "absent");
     }
     done_text(alloc, host.write_at(name, at, &bytes))
@@ -173,7 +173,7 @@ fn synced<H: Stage>(alloc: Global, host: &mut H, name: &Name) -> Result<String, 
     requires { H.tells → IsSome (H.world host.old).dir }
     ensures { H.tells → IsSome (H.world host.new).dir }
 {
-    if !host.has(alloc, name, 0)? {
+    if !host.has(name, 0)? {
         return String::from_str(alloc, "absent");
     }
     done_text(alloc, host.sync(name))
@@ -183,7 +183,7 @@ fn unlinked<H: Stage>(alloc: Global, host: &mut H, name: &Name) -> Result<String
     requires { H.tells → IsSome (H.world host.old).dir }
     ensures { H.tells → IsSome (H.world host.new).dir }
 {
-    if !host.has(alloc, name, 0)? {
+    if !host.has(name, 0)? {
         return String::from_str(alloc, "absent");
     }
     done_text(alloc, host.unlink(name))

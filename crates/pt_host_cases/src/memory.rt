@@ -109,8 +109,8 @@ fn order(alloc: Global, host: &mut MemHost, word: &str, rest: &str) -> Result<St
     String::from_str(alloc, "ordered")
 }
 
-fn numbers_of(alloc: Global, text: &str) -> Result<List<u64>, AllocError> {
-    let mut numbers = List::new(alloc);
+fn numbers_of(alloc: Global, text: &str) -> Result<Vec<u64>, AllocError> {
+    let mut numbers = Vec::new(alloc);
     for number in text.split_whitespace() {
         if let Ok(number) = number.parse::<u64>() {
             numbers.push(number)?;
@@ -123,7 +123,7 @@ fn numbers_of(alloc: Global, text: &str) -> Result<List<u64>, AllocError> {
 fn told(alloc: Global, host: &MemHost, word: &str, rest: &str) -> Result<String, AllocError> {
     match word {
         "image" => {
-            let image = host.image_pick(alloc, rest.parse::<u64>().unwrap_or(0))?;
+            let image = host.image_pick(rest.parse::<u64>().unwrap_or(0))?;
             files_text(alloc, image.files.items())
         }
         "said" => bytes_text(alloc, host.said()),

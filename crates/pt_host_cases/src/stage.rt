@@ -10,40 +10,40 @@ use pt_dirhost::DirHost;
 use pt_host::{Host, Name};
 use pt_memhost::MemHost;
 use pt_plain::List;
-use std::alloc::{AllocError, Global};
+use std::alloc::AllocError;
 use std::rt::Runtime;
 
 /// A host that says what may be called on it now, without a call. One that tells no content may be asked anything.
 pub(crate) trait Stage: Host {
     /// Whether a call may be made on a file of which so many bytes have to be there.
-    fn has(&self, alloc: Global, name: &Name, least: u64) -> Result<bool, AllocError>
+    fn has(&self, name: &Name, least: u64) -> Result<bool, AllocError>
         ensures { IfOk result (λ has. IsTrue has → Self.tells → IsSomeAnd (shown (Self.world self.now).now.fs name.now) (λ file. least ≤ length file)) };
 
     /// Whether a file of this name may be made.
-    fn lacks(&self, alloc: Global, name: &Name) -> Result<bool, AllocError>
+    fn lacks(&self, name: &Name) -> Result<bool, AllocError>
         ensures { IfOk result (λ lacks. IsTrue lacks → Self.tells → shown (Self.world self.now).now.fs name.now ≡ None) };
 }
 
 impl<R: Runtime> Stage for DirHost<R> {
-    fn has(&self, _alloc: Global, _name: &Name, _least: u64) -> Result<bool, AllocError> {
+    fn has(&self, _name: &Name, _least: u64) -> Result<bool, AllocError> {
         Ok(true)
     }
 
-    fn lacks(&self, _alloc: Global, _name: &Name) -> Result<bool, AllocError> {
+    fn lacks(&self, _name: &Name) -> Result<bool, AllocError> {
         Ok(true)
     }
 }
 
 impl Stage for MemHost {
-    fn has(&self, alloc: Global, name: &Name, least: u64) -> Result<bool, AllocError> {
-        match length_now(alloc, self, name)? {
+    fn has(&self, name: &Name, least: u64) -> Result<bool, AllocError> {
+        match length_now(self, name)? {
             Some(Some(length)) => Ok(least <= length),
             _ => Ok(false),
         }
     }
 
-    fn lacks(&self, alloc: Global, name: &Name) -> Result<bool, AllocError> {
-        match length_now(alloc, self, name)? {
+    fn lacks(&self, name: &Name) -> Result<bool, AllocError> {
+        match length_now(self, name)? {
             Some(None) => Ok(true),
             _ => Ok(false),
         }
@@ -51,13 +51,13 @@ impl Stage for MemHost {
 }
 
 /// The present length of a file, by the image with all pending names and present lengths. `None` where that has no number.
-fn length_now(alloc: Global, host: &MemHost, name: &Name) -> Result<Option<Option<u64>>, AllocError>
+fn length_now(host: &MemHost, name: &Name) -> Result<Option<Option<u64>>, AllocError>
     ensures { IfOk result (λ told. IfSome told (λ length_is. length_is ≡ option_map length (shown (world_in host.now).now.fs name.now))) }
 {
     let Some(choice) = present_choice(host.pending()) else {
         return Ok(None);
     };
-    let image = host.image_pick(alloc, choice)?;
+    let image = host.image_pick(choice)?;
     Ok(Some(length_in(image.files.items(), name)))
 }
 

@@ -11,17 +11,17 @@ use Rattle.std.proofs.lemmas.List.{get_or-take, take-map, length-map}
 use Rattle.std.proofs.lemmas.Map.Text.{is_eq-slice_cmp}
 use Rattle.std.proofs.lemmas.Simd.{map-map}
 use Rattle.pt_host.specs.Disk.{Object, Fs, Files, Names, NameOp, Survives, MayHold, MayBe, IsSound, IsImage, is_loose, empty_object, names_after}
-use Rattle.pt_host.specs.Listed.{AreRising, by_name}
+use Rattle.pt_host.specs.Listed.{FileList, AreRising, by_name}
 use Rattle.pt_memhost.specs.declared.names.NameChange.{NameChange}
 use Rattle.pt_memhost.specs.Names.{named, op_of}
 use Rattle.pt_memhost.specs.Held.{fs_with}
 use Rattle.pt_memhost.specs.Pick.{filled, loose_byte, kept_by, left_by, picked}
 
 -- what is left of each named object
-abbrev pub left_entries : ℕ → List Object → List (List ℕ × ℕ) → List (List ℕ × List ℕ)
+abbrev pub left_entries : ℕ → List Object → List (List ℕ × ℕ) → FileList
 left_entries rest objects entries = map (λ entry. (entry.0, left_by rest (get_or objects entry.1 empty_object))) entries
 
-pub left_rising : (rest : ℕ) (objects : List Object) (m : BTreeMap (List ℕ) ℕ) (files : List (List ℕ × List ℕ)) → IsOrdered (slice_cmp nat_cmp) m → files ≡ left_entries rest objects m.entries → AreRising files
+pub left_rising : (rest : ℕ) (objects : List Object) (m : BTreeMap (List ℕ) ℕ) (files : FileList) → IsOrdered (slice_cmp nat_cmp) m → files ≡ left_entries rest objects m.entries → AreRising files
 left_rising rest objects m files ordered e =
     rw (e, map-map (λ (f : List ℕ × List ℕ). f.0) (λ (entry : List ℕ × ℕ). (entry.0, left_by rest (get_or objects entry.1 empty_object))) m.entries) ordered
 
@@ -44,7 +44,7 @@ by_name_left rest objects (entry ∷ entries) name = go (is_at (slice_cmp nat_cm
     go false e h = rw e h
 
 -- The files that were picked are those of the definition.
-pub picked_is : (choice : ℕ) (objects : List Object) (settled : Names) (pending : List NameChange) (names : BTreeMap (List ℕ) ℕ) (files : List (List ℕ × List ℕ))
+pub picked_is : (choice : ℕ) (objects : List Object) (settled : Names) (pending : List NameChange) (names : BTreeMap (List ℕ) ℕ) (files : FileList)
     → named names ≡ names_after (map op_of (take (choice % (length pending + 1)) pending)) settled
     → files ≡ left_entries (choice / (length pending + 1)) objects names.entries
     → (name : List ℕ) → by_name files name ≡ picked choice (fs_with objects settled pending) name

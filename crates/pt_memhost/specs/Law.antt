@@ -5,6 +5,7 @@ use Rattle.std.specs.List.{position_from}
 use Rattle.std.specs.Str.{bytes_eq}
 use Rattle.std.proofs.Math.ListN.{get_or-map}
 use Rattle.std.proofs.lemmas.Slice.Eq.{bytes_eq-Decides}
+use Rattle.pt_host.specs.Listed.{FileList}
 use Rattle.pt_host.specs.Disk.{Fs, Names, empty_object, present, on_file, IsSound}
 use Rattle.pt_host.specs.World.{World, next, after_say}
 use Rattle.pt_host.proofs.Names.{survives_none}
@@ -14,14 +15,14 @@ use Rattle.pt_memhost.specs.declared.event.Event.TheVariants.{Entered, Looked, W
 use Rattle.pt_memhost.specs.Story.{Story, sure_object, place_of, start_fs, start_world, torn_by, after_event, world_after, world_of}
 
 -- the places of these files, counted from there on
-abbrev pub counted_from : ℕ → List (List ℕ × List ℕ) → Names
+abbrev pub counted_from : ℕ → FileList → Names
 counted_from first files name = position_from (λ file. bytes_eq file.0 name) first files
 
-record IsAmong (first : ℕ) (files : List (List ℕ × List ℕ)) (place : ℕ) : Type 0 where
+record IsAmong (first : ℕ) (files : FileList) (place : ℕ) : Type 0 where
   least : first ≤ place
   most : place < first + length files
 
-among : (files : List (List ℕ × List ℕ)) (first : ℕ) (name : List ℕ) (place : ℕ) → counted_from first files name ≡ Some place → IsAmong first files place
+among : (files : FileList) (first : ℕ) (name : List ℕ) (place : ℕ) → counted_from first files name ≡ Some place → IsAmong first files place
 among [] first name place e = cc
 among (file ∷ files) first name place e = go (bytes_eq file.0 name) e (λ f. among files (first + 1) name place f)
   where
@@ -29,7 +30,7 @@ among (file ∷ files) first name place e = go (bytes_eq file.0 name) e (λ f. a
     go true e rest = let same : first ≡ place = cc in record { least = omega arith; most = omega arith }
     go false e rest = let h : IsAmong (first + 1) files place = rest e in record { least = omega arith; most = omega arith }
 
-once : (files : List (List ℕ × List ℕ)) (first : ℕ) (a b : List ℕ) (place : ℕ) → counted_from first files a ≡ Some place → counted_from first files b ≡ Some place → a ≡ b
+once : (files : FileList) (first : ℕ) (a b : List ℕ) (place : ℕ) → counted_from first files a ≡ Some place → counted_from first files b ≡ Some place → a ≡ b
 once [] first a b place e f = cc
 once (file ∷ files) first a b place e f = go (bytes_eq file.0 a) (bytes_eq file.0 b) refl refl e f (λ x y. once files (first + 1) a b place x y)
   where
@@ -40,17 +41,17 @@ once (file ∷ files) first a b place e f = go (bytes_eq file.0 a) (bytes_eq fil
     go false true s t x y rest = let same : first ≡ place = cc in let h : IsAmong (first + 1) files place = among files (first + 1) a place x in absurd (omega arith)
     go false false s t x y rest = rest x y
 
-start_apart : (files : List (List ℕ × List ℕ)) → AreApart (length files) (place_of files)
+start_apart : (files : FileList) → AreApart (length files) (place_of files)
 start_apart files = record {
   bound = λ name object e. let h : IsAmong 0 files object = among files 0 name object e in omega arith;
   once = λ a b object e f. once files 0 a b object e f;
 }
 
 -- each object is whole: all of its bytes are sure
-pub start_object : (files : List (List ℕ × List ℕ)) (object : ℕ) → get_or (map (λ file. sure_object file.1) files) object empty_object ≡ sure_object (get_or files object ([], [])).1
+pub start_object : (files : FileList) (object : ℕ) → get_or (map (λ file. sure_object file.1) files) object empty_object ≡ sure_object (get_or files object ([], [])).1
 start_object files object = get_or-map (λ file. sure_object file.1) files object ([], [])
 
-pub start_sound : (files : List (List ℕ × List ℕ)) → IsSound (start_fs files)
+pub start_sound : (files : FileList) → IsSound (start_fs files)
 start_sound files =
     sound_apart (start_fs files)
     (λ kept s. rw (survives_none kept s) (start_apart files))

@@ -1,5 +1,6 @@
 -- A host in memory, as its callers see it.
 use Rattle.std.specs.Prelude.{ℕ, ◌-◌, ◌^◌, min, List, [], Option, None}
+use Rattle.pt_host.specs.Listed.{FileList}
 use Rattle.pt_host.specs.World.{World}
 use Rattle.pt_host.specs.Counts.{Counts}
 use Rattle.pt_memhost.specs.Story.{Story, world_of}
@@ -18,7 +19,7 @@ pub record Memory : Type 0 where
   pub fuse : Option ℕ
 
 -- No call was made, and none is to fail.
-abbrev pub fresh : List (List ℕ × List ℕ) → List ℕ → Memory
+abbrev pub fresh : FileList → List ℕ → Memory
 fresh files input = record {
   story = record { files = files; input = input; events = [] };
   calls = 0;

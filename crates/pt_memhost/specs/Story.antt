@@ -2,6 +2,7 @@
 use Rattle.std.specs.Prelude.{ℕ, ◌+◌, List, [], ◌∷◌, ◌++◌, length, map, Option, None, slice_index_or}
 use Rattle.std.specs.List.{position_from}
 use Rattle.std.specs.Str.{bytes_eq}
+use Rattle.pt_host.specs.Listed.{FileList}
 use Rattle.pt_host.specs.Disk.{Fs, Object, empty_object, overwrite, torn, Rename, Unlink, present, on_file, created, with_op}
 use Rattle.pt_host.specs.World.{World, Moment, next, after_enter, after_look, after_write, after_sync, after_fs, after_sync_names, after_take, after_say}
 use Rattle.pt_memhost.specs.declared.event.Event.{Event}
@@ -12,11 +13,11 @@ abbrev pub sure_object : List ℕ → Object
 sure_object bytes = record { bytes = bytes; least = length bytes; loose = [] }
 
 -- the place of the file with a name
-abbrev pub place_of : List (List ℕ × List ℕ) → List ℕ → Option ℕ
+abbrev pub place_of : FileList → List ℕ → Option ℕ
 place_of files name = position_from (λ file. bytes_eq file.0 name) 0 files
 
 -- These files at rest: the i-th one is object i.
-abbrev pub start_fs : List (List ℕ × List ℕ) → Fs
+abbrev pub start_fs : FileList → Fs
 start_fs files = record {
   objects = λ i. slice_index_or (map (λ file. sure_object file.1) files) i empty_object;
   made = length files;
@@ -24,11 +25,11 @@ start_fs files = record {
   pending = [];
 }
 
-abbrev pub start_moment : List (List ℕ × List ℕ) → Moment
+abbrev pub start_moment : FileList → Moment
 start_moment files = record { fs = start_fs files; said = []; looks = []; syncs = 0; bytes = 0 }
 
 -- nothing entered, taken or said
-abbrev pub start_world : List (List ℕ × List ℕ) → List ℕ → World
+abbrev pub start_world : FileList → List ℕ → World
 start_world files input = record { dir = None; input = input; now = start_moment files; moments = start_moment files ∷ [] }
 
 -- A write of so many bytes left its range loose and put these bytes, which are the first ones or all.
@@ -57,7 +58,7 @@ world_after [] w = w
 world_after (event ∷ events) w = world_after events (after_event event w)
 
 pub record Story : Type 0 where
-  pub files : List (List ℕ × List ℕ)
+  pub files : FileList
   pub input : List ℕ
   pub events : List Event
 

@@ -123,19 +123,19 @@ impl MemHost {
     /// An image that a stop may leave now, by a choice: with p pending name operations the first `choice % (p + 1)` of them
     /// survive. The quotient says what is left of each file: its least length where it is even, and its present one where it
     /// is odd; and half of it, by 4, what its loose bytes hold: the present ones, or each 0, or 1, or 255.
-    pub fn image_pick(&self, alloc: Global, choice: u64) -> Result<Image, AllocError>
+    pub fn image_pick(&self, choice: u64) -> Result<Image, AllocError>
         ensures picked { IfOk result (λ image. (name : Listed ℕ) → by_name image.files name ≡ picked choice (world_in self.now).now.fs name) }
         ensures image { IfOk result (λ image. IsImage (world_in self.now).now.fs (by_name image.files)) }
     {
-        self.kept.pick(alloc, choice)
+        self.kept.pick(self.alloc, choice)
     }
 
     /// The calls of `Host` with these numbers are to fail, counted over all of them from 0, and no others by order. It takes
     /// no memory.
-    pub fn fail_calls(&mut self, list: List<u64>)
-        ensures { self.new ≡ record self.old { ordered = list } }
+    pub fn fail_calls(&mut self, list: Vec<u64>)
+        ensures { self.new ≡ record self.old { ordered = list.items } }
     {
-        self.ordered = list;
+        self.ordered = List::of(list);
     }
 
     /// So many more calls of `Host` pass, and each later one fails. It takes no memory.

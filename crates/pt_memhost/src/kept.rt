@@ -13,7 +13,7 @@ use crate::read::read_from;
 use crate::room::add_last;
 use crate::start::copy_files;
 use crate::state::State;
-use pt_host::{Files, Image, Name};
+use pt_host::{FileList, Image, Name};
 use pt_plain::List;
 use std::alloc::{AllocError, Global};
 use std::marker::Model;
@@ -23,7 +23,7 @@ use std::marker::Model;
 #[derive(Drop)]
 pub(crate) struct Kept {
     alloc: Global,
-    files: Files,
+    files: FileList,
     events: Vec<Event>,
     state: State,
 }

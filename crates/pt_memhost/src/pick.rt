@@ -8,7 +8,7 @@ ghost use Rattle.pt_memhost.specs.Pick.{left_by};
 
 use crate::names::{NameChange, Names, change};
 use crate::object::FileObject;
-use pt_host::Files;
+use pt_host::FileList;
 use pt_plain::List;
 use std::alloc::{AllocError, Global};
 
@@ -29,7 +29,7 @@ pub(crate) fn files_left(
     names: &Names,
     objects: &[FileObject],
     rest: u64,
-) -> Result<Files, AllocError>
+) -> Result<FileList, AllocError>
     ensures files { IfOk result (λ files. files ≡ map (λ entry. (entry.0, left_by rest (slice_index_or objects.now entry.1 empty_object))) names.now.entries) }
     ensures ordered { IsOrdered (slice_cmp nat_cmp) names.now }
 {

@@ -4,12 +4,12 @@ ghost use Rattle.pt_memhost.specs.Story.{sure_object, place_of};
 
 use crate::names::{Names, set};
 use crate::object::FileObject;
-use pt_host::{Files, Name};
+use pt_host::{FileList, Name};
 use pt_plain::List;
 use std::alloc::{AllocError, Global};
 
 /// A copy of these files.
-pub(crate) fn copy_files(alloc: Global, files: &[(Name, List<u8>)]) -> Result<Files, AllocError>
+pub(crate) fn copy_files(alloc: Global, files: &[(Name, List<u8>)]) -> Result<FileList, AllocError>
     ensures { IfOk result (λ copy. copy ≡ files.now) }
 {
     let mut copy = List::new(alloc);

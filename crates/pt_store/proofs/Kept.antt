@@ -4,12 +4,12 @@ use Rattle.std.specs.Prelude.{Option, Some, None, slice_get, IsSome, IsSomeAnd}
 use Rattle.std.specs.Option.{option_map, option_copied}
 use Rattle.std.specs.List.{find}
 use Rattle.std.specs.Str.{bytes_eq}
-use Rattle.pt_host.specs.Listed.{by_name}
+use Rattle.pt_host.specs.Listed.{FileList, by_name}
 use Rattle.pt_store.specs.declared.entry.Entry.{Entry}
 use Rattle.pt_host.specs.Disk.{shown}
 use Rattle.pt_host.specs.World.{World}
 use Rattle.pt_store.specs.declared.store.Store.{Store}
-use Rattle.pt_store.specs.Left.{whole_name}
+use Rattle.pt_left.specs.Left.{whole_name}
 use Rattle.pt_store.specs.Entries.{AreEntries, HasEntries, bytes_of, size_of, length_in}
 use Rattle.pt_store.specs.Store.{IsStore, sizes, sizes_of}
 use Rattle.pt_store.proofs.Reading.{no_entries, entries_long}
@@ -20,7 +20,7 @@ no_entries_read whole entries none empty = rw (none, empty) (record { files = []
 
 -- # Names and lengths
 
-pub entry_sizes : (bytes : List ℕ) (entries : List Entry) (files : List (List ℕ × List ℕ)) → AreEntries bytes entries files → map size_of entries ≡ sizes_of files
+pub entry_sizes : (bytes : List ℕ) (entries : List Entry) (files : FileList) → AreEntries bytes entries files → map size_of entries ≡ sizes_of files
 unfolding AreEntries
 entry_sizes bytes [] [] are = refl
 entry_sizes bytes [] (f ∷ files) are = absurd are
@@ -41,7 +41,7 @@ found_length (e ∷ entries) query = go (bytes_eq e.name query) (found_length en
     go true rest = refl
     go false rest = rest
 
-pub file_length : (files : List (List ℕ × List ℕ)) (query : List ℕ) → length_in (sizes_of files) query ≡ option_map (λ b. length b) (by_name files query)
+pub file_length : (files : FileList) (query : List ℕ) → length_in (sizes_of files) query ≡ option_map (λ b. length b) (by_name files query)
 file_length [] query = refl
 file_length (f ∷ files) query = go (bytes_eq f.0 query) (file_length files query)
   where
@@ -50,7 +50,7 @@ file_length (f ∷ files) query = go (bytes_eq f.0 query) (file_length files que
     go true rest = refl
     go false rest = rest
 
-name_of : (files : List (List ℕ × List ℕ)) (i : ℕ) → option_map (λ size. size.0) (slice_get (sizes_of files) i) ≡ option_map (λ file. file.0) (slice_get files i)
+name_of : (files : FileList) (i : ℕ) → option_map (λ size. size.0) (slice_get (sizes_of files) i) ≡ option_map (λ file. file.0) (slice_get files i)
 name_of [] i = refl
 name_of (f ∷ files) zero = refl
 name_of (f ∷ files) (suc i) = name_of files i
@@ -58,7 +58,7 @@ name_of (f ∷ files) (suc i) = name_of files i
 -- # Bytes
 
 -- the bytes at a name stand where its entry says
-pub entry_bytes : (bytes : List ℕ) (entries : List Entry) (files : List (List ℕ × List ℕ)) (query : List ℕ) (entry : Entry) → AreEntries bytes entries files → find (λ e. bytes_eq e.name query) entries ≡ Some entry
+pub entry_bytes : (bytes : List ℕ) (entries : List Entry) (files : FileList) (query : List ℕ) (entry : Entry) → AreEntries bytes entries files → find (λ e. bytes_eq e.name query) entries ≡ Some entry
     → (entry.place + entry.length ≤ length bytes) × (by_name files query ≡ Some (take entry.length (drop entry.place bytes)))
 unfolding AreEntries
 entry_bytes bytes [] [] query entry are found = let bad : None ≡ Some entry = found in cc
@@ -81,7 +81,7 @@ entry_bytes bytes (e ∷ entries) (f ∷ files) query entry are found =
 
 -- # A store over its map
 
-module _ (store : Store) (files : List (List ℕ × List ℕ)) (w : World) (is : IsStore store files w) where
+module _ (store : Store) (files : FileList) (w : World) (is : IsStore store files w) where
   pub sizes_are : sizes store ≡ sizes_of files
   sizes_are = entry_sizes (bytes_of (shown w.now.fs whole_name)) store.entries files is.here
 
@@ -113,7 +113,7 @@ pub found_is : (entries lent : List Entry) (query : List ℕ) (o : Option (Bor E
     → find (λ x. bytes_eq x.name query) entries ≡ Some e.now
 found_is entries lent query o e same is at = ap (find (λ x. bytes_eq x.name query)) (sym same) ∙ sym is ∙ ap option_copied at
 
-module _ (store : Store) (files : List (List ℕ × List ℕ)) (w : World) (is : IsStore store files w) (query : List ℕ) (e : Entry) (at : find (λ x. bytes_eq x.name query) store.entries ≡ Some e) where
+module _ (store : Store) (files : FileList) (w : World) (is : IsStore store files w) (query : List ℕ) (e : Entry) (at : find (λ x. bytes_eq x.name query) store.entries ≡ Some e) where
   stands : (e.place + e.length ≤ length (bytes_of (shown w.now.fs whole_name))) × (by_name files query ≡ Some (take e.length (drop e.place (bytes_of (shown w.now.fs whole_name)))))
   stands = entry_bytes (bytes_of (shown w.now.fs whole_name)) store.entries files query e is.here at
 

@@ -1,8 +1,7 @@
-pub mod Fields
 pub mod Reading
 pub mod Writing
-pub mod Once
+pub mod Parsed
 pub mod Placed
-pub mod Steps
 pub mod Kept
 pub mod Moments
+pub mod Steps

@@ -7,9 +7,10 @@ use Rattle.std.specs.Str.{bytes_eq}
 use Rattle.std.proofs.lemmas.Map.Text.{is_eq-slice_cmp}
 use Rattle.std.specs.Cmp.Lexicographic.{slice_cmp}
 use Rattle.std.specs.Ordering.{nat_cmp, is_eq}
+use Rattle.pt_host.specs.Listed.{FileList}
 use Rattle.pt_store.specs.declared.entry.Entry.{Entry}
 use Rattle.pt_store.specs.Entries.{IsEntry, AreEntries, size_of, length_in}
-use Rattle.pt_store.specs.Left.{serials_name, with_serials}
+use Rattle.pt_left.specs.Left.{serials_name, with_serials}
 
 -- the entry of no bytes at all
 abbrev pub nowhere : Entry
@@ -29,7 +30,7 @@ module _ (bytes : List ℕ) where
   same_place : (e : Entry) (f : List ℕ × List ℕ) (o : Ordering) → IsEntry bytes e f → stands e ≡ o → slice_cmp nat_cmp f.0 serials_name ≡ o
   same_place e f o is at = ap (λ (name : List ℕ). slice_cmp nat_cmp name serials_name) (sym is.named) ∙ at
 
-  pub at_end : (entries : List Entry) (files : List (List ℕ × List ℕ)) → AreBefore entries (length entries) → AreEntries bytes entries files → AreEntries bytes (entries ++ nowhere ∷ []) (with_serials files)
+  pub at_end : (entries : List Entry) (files : FileList) → AreBefore entries (length entries) → AreEntries bytes entries files → AreEntries bytes (entries ++ nowhere ∷ []) (with_serials files)
   unfolding AreEntries with_serials
   at_end [] [] before are = (nowhere_is bytes, tt)
   at_end [] (f ∷ files) before are = absurd are
@@ -38,7 +39,7 @@ module _ (bytes : List ℕ) where
       rw (same_place e f Less are.0 (before 0 e (omega arith)))
       (are.0, at_end entries files (λ k d below. before (suc k) d (omega arith)) are.1)
 
-  pub in_front : (entries : List Entry) (files : List (List ℕ × List ℕ)) (i : ℕ) → i < length entries → AreBefore entries i → ((d : Entry) → stands (get_or entries i d) ≡ Greater) → AreEntries bytes entries files
+  pub in_front : (entries : List Entry) (files : FileList) (i : ℕ) → i < length entries → AreBefore entries i → ((d : Entry) → stands (get_or entries i d) ≡ Greater) → AreEntries bytes entries files
       → AreEntries bytes (insert entries i nowhere) (with_serials files)
   unfolding AreEntries with_serials
   in_front [] files i within before after are = absurd (omega arith)
@@ -48,7 +49,7 @@ module _ (bytes : List ℕ) where
       rw (same_place e f Less are.0 (before 0 e (omega arith)))
       (are.0, in_front entries files i (omega arith) (λ k d below. before (suc k) d (omega arith)) after are.1)
 
-  pub already : (entries : List Entry) (files : List (List ℕ × List ℕ)) (i : ℕ) → i < length entries → AreBefore entries i → ((d : Entry) → stands (get_or entries i d) ≡ Equal) → AreEntries bytes entries files
+  pub already : (entries : List Entry) (files : FileList) (i : ℕ) → i < length entries → AreBefore entries i → ((d : Entry) → stands (get_or entries i d) ≡ Equal) → AreEntries bytes entries files
       → AreEntries bytes entries (with_serials files)
   unfolding AreEntries with_serials
   already [] files i within before same are = absurd (omega arith)

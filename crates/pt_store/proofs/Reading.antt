@@ -6,10 +6,11 @@ use Rattle.std.specs.List.{flat_map}
 use Rattle.std.proofs.lemmas.List.{take_at, drop_at, nil_from_length, flat_map_more}
 use Rattle.std.proofs.lemmas.List.Elements.{All-push, All-nil, All-head, All-tail}
 use Rattle.std.proofs.lemmas.Grind.{common_steps}
+use Rattle.pt_host.specs.Listed.{FileList}
 use Rattle.pt_store.specs.declared.entry.Entry.{Entry}
-use Rattle.pt_store.specs.Spelling.{number, spelled_name, spelled_file, spelling, IsFile, SpellsFiles}
+use Rattle.pt_left.specs.Spelling.{number, spelled_name, spelled_file, spelling, IsFile, SpellsFiles}
 use Rattle.pt_store.specs.Entries.{IsEntry, AreEntries, Parses}
-use Rattle.pt_store.proofs.Fields.{one_number, one_file, file_ends}
+use Rattle.pt_left.proofs.Fields.{one_number, one_file, file_ends}
 
 -- # Entries
 
@@ -17,7 +18,7 @@ pub no_entries : (bytes : List ℕ) → AreEntries bytes [] []
 unfolding AreEntries
 no_entries bytes = tt
 
-pub push_entry : (bytes : List ℕ) (entries : List Entry) (files : List (List ℕ × List ℕ)) (entry : Entry) (file : List ℕ × List ℕ) → AreEntries bytes entries files → IsEntry bytes entry file
+pub push_entry : (bytes : List ℕ) (entries : List Entry) (files : FileList) (entry : Entry) (file : List ℕ × List ℕ) → AreEntries bytes entries files → IsEntry bytes entry file
     → AreEntries bytes (entries ++ entry ∷ []) (files ++ file ∷ [])
 unfolding AreEntries
 push_entry bytes [] [] entry file are is = (is, tt)
@@ -25,7 +26,7 @@ push_entry bytes [] (f ∷ files) entry file are is = absurd are
 push_entry bytes (e ∷ entries) [] entry file are is = absurd are
 push_entry bytes (e ∷ entries) (f ∷ files) entry file are is = (are.0, push_entry bytes entries files entry file are.1 is)
 
-pub entries_long : (bytes : List ℕ) (entries : List Entry) (files : List (List ℕ × List ℕ)) → AreEntries bytes entries files → length entries ≡ length files
+pub entries_long : (bytes : List ℕ) (entries : List Entry) (files : FileList) → AreEntries bytes entries files → length entries ≡ length files
 unfolding AreEntries
 entries_long bytes [] [] are = refl
 entries_long bytes [] (f ∷ files) are = absurd are
@@ -33,7 +34,7 @@ entries_long bytes (e ∷ entries) [] are = absurd are
 entries_long bytes (e ∷ entries) (f ∷ files) are = ap suc (entries_long bytes entries files are.1)
 
 -- the same over more bytes
-pub entries_more : (bytes more : List ℕ) (entries : List Entry) (files : List (List ℕ × List ℕ)) → AreEntries bytes entries files → AreEntries (bytes ++ more) entries files
+pub entries_more : (bytes more : List ℕ) (entries : List Entry) (files : FileList) → AreEntries bytes entries files → AreEntries (bytes ++ more) entries files
 unfolding AreEntries
 entries_more bytes more [] [] are = tt
 entries_more bytes more [] (f ∷ files) are = absurd are
@@ -68,15 +69,15 @@ part_here bytes before part after place e p =
 
 -- `done` of `count` files are read, and these bytes are left.
 pub record Reading (bytes : List ℕ) (count done : ℕ) (entries : List Entry) (rest : List ℕ) : Type 0 where
-  pub files : List (List ℕ × List ℕ)
+  pub files : FileList
   pub entries_are : AreEntries bytes entries files
   pub each : All IsFile files
   pub many : length files ≡ done
   pub few : count < 2 ^ 64
   pub split : bytes ≡ number count ++ flat_map spelled_file files ++ rest
-  pub only : (all : List (List ℕ × List ℕ)) → SpellsFiles bytes all → (length all ≡ count) × (more : List (List ℕ × List ℕ)) × (all ≡ files ++ more) × (rest ≡ flat_map spelled_file more)
+  pub only : (all : FileList) → SpellsFiles bytes all → (length all ≡ count) × (more : FileList) × (all ≡ files ++ more) × (rest ≡ flat_map spelled_file more)
 
-pub none_without_number : (bytes : List ℕ) → ((n : ℕ) (rest : List ℕ) → n < 2 ^ 64 → bytes ≡ number n ++ rest → ⊥) → (files : List (List ℕ × List ℕ)) → SpellsFiles bytes files → ⊥
+pub none_without_number : (bytes : List ℕ) → ((n : ℕ) (rest : List ℕ) → n < 2 ^ 64 → bytes ≡ number n ++ rest → ⊥) → (files : FileList) → SpellsFiles bytes files → ⊥
 unfolding spelling
 none_without_number bytes none files s = none (length files) (flat_map spelled_file files) s.few s.spelled
 
@@ -96,21 +97,21 @@ reading_starts bytes count rest few e = record {
 
 module _ (bytes : List ℕ) (count done : ℕ) (entries : List Entry) (rest : List ℕ) (r : Reading bytes count done entries rest) where
   -- where files are left, each map that is spelled has one more
-  next : done < count → (all : List (List ℕ × List ℕ)) → SpellsFiles bytes all → (file : List ℕ × List ℕ) × (more : List (List ℕ × List ℕ)) × (all ≡ (r.files ++ file ∷ []) ++ more) × IsFile file × (rest ≡ spelled_file file ++ flat_map spelled_file more)
+  next : done < count → (all : FileList) → SpellsFiles bytes all → (file : List ℕ × List ℕ) × (more : FileList) × (all ≡ (r.files ++ file ∷ []) ++ more) × IsFile file × (rest ≡ spelled_file file ++ flat_map spelled_file more)
   next below all s = let o = r.only all s in go o.1 o.0 o.2 o.3
     where
-      go : (more : List (List ℕ × List ℕ)) → length all ≡ count → all ≡ r.files ++ more → rest ≡ flat_map spelled_file more
-          → (file : List ℕ × List ℕ) × (after : List (List ℕ × List ℕ)) × (all ≡ (r.files ++ file ∷ []) ++ after) × IsFile file × (rest ≡ spelled_file file ++ flat_map spelled_file after)
-      go [] long parts left = absurd (omega (arith, long, r.many, ap (λ (fs : List (List ℕ × List ℕ)). length fs) parts, length-append r.files []))
+      go : (more : FileList) → length all ≡ count → all ≡ r.files ++ more → rest ≡ flat_map spelled_file more
+          → (file : List ℕ × List ℕ) × (after : FileList) × (all ≡ (r.files ++ file ∷ []) ++ after) × IsFile file × (rest ≡ spelled_file file ++ flat_map spelled_file after)
+      go [] long parts left = absurd (omega (arith, long, r.many, ap (λ (fs : FileList). length fs) parts, length-append r.files []))
       go (file ∷ after) long parts left = (
         file,
         after,
         parts ∙ sym (append_assoc r.files (file ∷ []) after),
-        All-head IsFile file after (All-after IsFile r.files (file ∷ after) (subst (λ (fs : List (List ℕ × List ℕ)). All IsFile fs) parts s.each)),
+        All-head IsFile file after (All-after IsFile r.files (file ∷ after) (subst (λ (fs : FileList). All IsFile fs) parts s.each)),
         left,
       )
 
-  pub none_without_file : done < count → ((file : List ℕ × List ℕ) (more : List ℕ) → IsFile file → rest ≡ spelled_file file ++ more → ⊥) → (all : List (List ℕ × List ℕ)) → SpellsFiles bytes all → ⊥
+  pub none_without_file : done < count → ((file : List ℕ × List ℕ) (more : List ℕ) → IsFile file → rest ≡ spelled_file file ++ more → ⊥) → (all : FileList) → SpellsFiles bytes all → ⊥
   none_without_file below none all s = let n = next below all s in none n.0 (flat_map spelled_file n.1) n.3 n.4
 
   module _ (file : List ℕ × List ℕ) (after : List ℕ) (is : IsFile file) (found : rest ≡ spelled_file file ++ after) where
@@ -152,10 +153,10 @@ module _ (bytes : List ℕ) (count done : ℕ) (entries : List Entry) (rest : Li
           ((r.only all s).0, n.1, n.2 ∙ ap (λ f. (r.files ++ f ∷ []) ++ n.1) (sym same.0), same.1);
     }
 
-  none_left : count ≤ done → (all : List (List ℕ × List ℕ)) → SpellsFiles bytes all → rest ≡ []
-  none_left above all s = let o = r.only all s in o.3 ∙ ap (flat_map spelled_file) (nil_from_length o.1 (omega (arith, o.0, r.many, ap (λ (fs : List (List ℕ × List ℕ)). length fs) o.2, length-append r.files o.1)))
+  none_left : count ≤ done → (all : FileList) → SpellsFiles bytes all → rest ≡ []
+  none_left above all s = let o = r.only all s in o.3 ∙ ap (flat_map spelled_file) (nil_from_length o.1 (omega (arith, o.0, r.many, ap (λ (fs : FileList). length fs) o.2, length-append r.files o.1)))
 
-  pub none_with_more : count ≤ done → (rest ≡ [] → ⊥) → (all : List (List ℕ × List ℕ)) → SpellsFiles bytes all → ⊥
+  pub none_with_more : count ≤ done → (rest ≡ [] → ⊥) → (all : FileList) → SpellsFiles bytes all → ⊥
   none_with_more above more all s = more (none_left above all s)
 
   pub reading_ends : done ≤ count → count ≤ done → rest ≡ [] → Parses SpellsFiles bytes (Some entries)

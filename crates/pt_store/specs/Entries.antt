@@ -2,8 +2,9 @@
 use Rattle.std.specs.Prelude.{◌≡◌, ℕ, ◌+◌, ◌≤◌, List, [], ◌∷◌, ◌++◌, cond, length, take, drop, Option, Some, None}
 use Rattle.std.specs.List.{AllZip}
 use Rattle.std.specs.Str.{bytes_eq}
+use Rattle.pt_host.specs.Listed.{FileList}
 use Rattle.pt_store.specs.declared.entry.Entry.{Entry}
-use Rattle.pt_store.specs.Left.{SpelledIn}
+use Rattle.pt_left.specs.Left.{SpelledIn}
 
 -- The entry is this file's, whose bytes stand in these at its place.
 pub record IsEntry (bytes : List ℕ) (entry : Entry) (file : List ℕ × List ℕ) : Type 0 where
@@ -13,7 +14,7 @@ pub record IsEntry (bytes : List ℕ) (entry : Entry) (file : List ℕ × List �
   pub here : take entry.length (drop entry.place bytes) ≡ file.1
 
 -- The entries are these files', one for each.
-unfoldable pub AreEntries : List ℕ → List Entry → List (List ℕ × List ℕ) → Type 0
+unfoldable pub AreEntries : List ℕ → List Entry → FileList → Type 0
 AreEntries bytes entries files = AllZip (IsEntry bytes) entries files
 
 -- the name and the length of an entry
@@ -31,9 +32,9 @@ Begins spelled Is bytes (Some found) = Is found.0 × (bytes ≡ spelled found.0 
 Begins {X} spelled Is bytes None = (x : X) (rest : List ℕ) → Is x → bytes ≡ spelled x ++ rest → ⊥
 
 -- The entries of the files that the bytes spell, or that they spell none.
-abbrev pub Parses : (List ℕ → List (List ℕ × List ℕ) → Type 0) → List ℕ → Option (List Entry) → Type 0
-Parses Spell bytes (Some entries) = (files : List (List ℕ × List ℕ)) × Spell bytes files × AreEntries bytes entries files
-Parses Spell bytes None = (files : List (List ℕ × List ℕ)) → Spell bytes files → ⊥
+abbrev pub Parses : (List ℕ → FileList → Type 0) → List ℕ → Option (List Entry) → Type 0
+Parses Spell bytes (Some entries) = (files : FileList) × Spell bytes files × AreEntries bytes entries files
+Parses Spell bytes None = (files : FileList) → Spell bytes files → ⊥
 
 -- the bytes of a file, none where it is missing
 abbrev pub bytes_of : Option (List ℕ) → List ℕ
@@ -42,10 +43,10 @@ bytes_of (Some bytes) = bytes
 
 -- The entries are those of the map that `whole.map` spells, where it is missing or has these bytes.
 pub record HasEntries (whole : Option (List ℕ)) (entries : List Entry) : Type 0 where
-  pub files : List (List ℕ × List ℕ)
+  pub files : FileList
   pub spelled : SpelledIn whole files
   pub are : AreEntries (bytes_of whole) entries files
 
 -- It spells no map.
 abbrev pub IsMeaningless : Option (List ℕ) → Type 0
-IsMeaningless whole = (files : List (List ℕ × List ℕ)) → SpelledIn whole files → ⊥
+IsMeaningless whole = (files : FileList) → SpelledIn whole files → ⊥

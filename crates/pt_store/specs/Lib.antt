@@ -1,5 +1,4 @@
-pub mod Spelling
-pub mod Left
 pub mod Stops
 pub mod Entries
 pub mod Store
+pub mod Step

@@ -6,13 +6,13 @@ ghost use Rattle.pt_host.specs.World.{IsQuiet, OnlyLooks};
 ghost use Rattle.pt_host.specs.Counts.{DiskCall};
 ghost use Rattle.pt_host.specs.Images.{IsHeld};
 ghost use Rattle.pt_host.specs.Replacement.{AsBeforeBut, IsBeforeOrAfter, IsClear, IsReady};
-ghost use Rattle.pt_store.specs.Left.{whole_name, shadow_name};
+ghost use Rattle.pt_left.specs.Left.{whole_name, shadow_name, IsWhole};
 ghost use Rattle.pt_store.specs.Entries.{HasEntries, IsMeaningless};
 ghost use Rattle.pt_store.specs.Stops.{IsCounted, IfBad};
 
+use crate::Stop;
 use crate::entry::Entry;
 use crate::parse::parse;
-use crate::{Stop, names};
 use pt_host::{Host, HostFail};
 use pt_plain::List;
 use std::alloc::Global;
@@ -26,7 +26,7 @@ pub(crate) fn clear_shadow<H: Host>(host: &mut H) -> Result<(), HostFail>
     ensures idle { H.tells → shown (H.world host.old).now.fs shadow_name ≡ None → H.world host.new ≡ H.world host.old }
     ensures counts { DiskCall (H.counts host.old) (H.counts host.new) result }
 {
-    let shadow = names::shadow();
+    let shadow = pt_left::shadow();
     if host.length(&shadow)?.is_some() {
         host.unlink(&shadow)?;
         host.sync_names()?;
@@ -39,7 +39,7 @@ pub(crate) fn read_entries<H: Host>(alloc: Global, host: &mut H) -> Result<List<
     requires { H.tells → IsSome (H.world host.old).dir }
     ensures found { IfOk result (λ entries. H.tells → HasEntries (shown (H.world host.old).now.fs whole_name) entries) }
     ensures looks { H.tells → OnlyLooks (H.world host.old) (H.world host.new) }
-    ensures bad { IfBad result (λ name place. (name ≡ whole_name) × (place ≡ 0) × (H.tells → IsMeaningless (shown (H.world host.old).now.fs whole_name))) }
+    ensures bad { IfBad result (λ name place. IsWhole name place × (H.tells → IsMeaningless (shown (H.world host.old).now.fs whole_name))) }
     ensures counts { IsCounted (H.counts host.old) (H.counts host.new) result }
 {
     let Some(bytes) = read_whole(alloc, host)? else {
@@ -47,7 +47,7 @@ pub(crate) fn read_entries<H: Host>(alloc: Global, host: &mut H) -> Result<List<
     };
     let Some(entries) = parse(alloc, bytes.as_slice())? else {
         return Err(Stop::Bad {
-            name: names::whole(),
+            name: pt_left::whole(),
             place: 0,
         });
     };
@@ -59,10 +59,10 @@ fn read_whole<H: Host>(alloc: Global, host: &mut H) -> Result<Option<Vec<u8>>, S
     requires { H.tells → IsSome (H.world host.old).dir }
     ensures bytes { IfOk result (λ found. H.tells → shown (H.world host.old).now.fs whole_name ≡ option_map (λ v. v.items) found) }
     ensures looks { H.tells → OnlyLooks (H.world host.old) (H.world host.new) }
-    ensures bad { IfBad result (λ name place. (name ≡ whole_name) × (place ≡ 0) × (H.tells → ⊥)) }
+    ensures bad { IfBad result (λ name place. IsWhole name place × (H.tells → ⊥)) }
     ensures counts { IsCounted (H.counts host.old) (H.counts host.new) result }
 {
-    let Some(length) = host.length(&names::whole())? else {
+    let Some(length) = host.length(&pt_left::whole())? else {
         return Ok(None);
     };
     let bytes = read_range(alloc, host, 0, length)?;
@@ -79,10 +79,10 @@ pub(crate) fn read_range<H: Host>(
     requires { H.tells → IsSomeAnd (shown (H.world host.old).now.fs whole_name) (λ file. place + count ≤ length file) }
     ensures bytes { IfOk result (λ v. H.tells → IsSomeAnd (shown (H.world host.old).now.fs whole_name) (λ file. v.items ≡ take count (drop place file))) }
     ensures looks { H.tells → OnlyLooks (H.world host.old) (H.world host.new) }
-    ensures bad { IfBad result (λ name place. (name ≡ whole_name) × (place ≡ 0) × (H.tells → ⊥)) }
+    ensures bad { IfBad result (λ name place. IsWhole name place × (H.tells → ⊥)) }
     ensures counts { IsCounted (H.counts host.old) (H.counts host.new) result }
 {
-    let whole = names::whole();
+    let whole = pt_left::whole();
     let mut bytes = Vec::from_elem(alloc, 0u8, count as usize)?;
     let read = host.read_at(&whole, place, &mut bytes)?;
     if read < bytes.len() {

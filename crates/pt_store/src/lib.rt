@@ -5,23 +5,20 @@
 //!
 //! What it promises:
 //!
-//! - A directory stands for one map at most: the one that `whole.map` spells, with an empty `serials.cnt` where it has
-//!   none (`Left`). A missing `whole.map` spells the empty map, and each map has one spelling (`specs/Spelling.antt`).
-//! - At each moment of `attach` and `read`, every image of the directory stands for the map of before (`IsQuiet`).
+//! - At each moment of `attach`, every image of the directory stands for the map of before (`OnlyClears`), and `read` only
+//!   looks (`IsLook`).
 //! - At each moment of `replace`, every image stands for the old map or the new one, and for the new one once it has
-//!   answered `Ok` (`IsEither`, `IsStore`).
+//!   answered `Ok` (`IsStep`, which each call that changes the map promises).
 //! - `Fault` is answered only where the host's count of disk faults rose in that call (`IsCounted`), for every host.
 //!
 //! `whole.map` is replaced by its shadow: an old shadow is removed, the new one is made, filled and synced, and then
 //! renamed, with a sync of names after each change of names that the next step rests on.
 //!
-//! It stands on `pt_host` and `pt_plain`.
+//! It stands on `pt_left`, which says what a directory stands for (`Left`), `pt_host` and `pt_plain`.
 #![tactic(auto)]
 
 mod disk;
 mod entry;
-mod law;
-mod names;
 mod parse;
 mod serials;
 mod spell;
@@ -29,6 +26,5 @@ mod stop;
 mod store;
 mod swap;
 
-pub use law::stands_for_one_map;
 pub use stop::Stop;
 pub use store::Store;

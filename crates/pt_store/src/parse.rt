@@ -5,7 +5,7 @@ ghost use Rattle.std.specs.Cmp.Lexicographic.{slice_cmp};
 ghost use Rattle.std.specs.Ordering.{nat_cmp};
 ghost use Rattle.std.specs.List.Sorted.{IsStrictlySortedBy};
 ghost use Rattle.pt_host.specs.Name.{IsName};
-ghost use Rattle.pt_store.specs.Spelling.{number, spelled_name, spelled_bytes, spelled_file, IsFile, SpellsFiles, Spells};
+ghost use Rattle.pt_left.specs.Spelling.{number, spelled_name, spelled_bytes, spelled_file, IsFile, SpellsFiles, Spells};
 ghost use Rattle.pt_store.specs.Entries.{Begins, Parses};
 
 use crate::entry::Entry;

@@ -1,10 +1,10 @@
 //! The file that each map has.
 ghost use Rattle.std.specs.Prelude.{◌≡◌, ℕ, List as Listed, map, OnOk, IsSome};
+ghost use Rattle.pt_host.specs.Listed.{FileList};
 ghost use Rattle.pt_store.specs.Entries.{AreEntries, length_in, size_of};
-ghost use Rattle.pt_store.specs.Left.{serials_name, with_serials};
+ghost use Rattle.pt_left.specs.Left.{serials_name, with_serials};
 
 use crate::entry::Entry;
-use crate::names;
 use pt_plain::List;
 use std::alloc::AllocError;
 use std::cmp::Ordering;
@@ -12,9 +12,9 @@ use std::cmp::Ordering;
 /// Adds an entry for an empty `serials.cnt` in its place, where there is none.
 pub(crate) fn add_serials(entries: &mut List<Entry>) -> Result<(), AllocError>
     ensures has { OnOk result (IsSome (length_in (map size_of entries.new) serials_name)) }
-    ensures files { OnOk result ((bytes : Listed ℕ) (files : Listed (Listed ℕ × Listed ℕ)) → AreEntries bytes entries.old files → AreEntries bytes entries.new (with_serials files)) }
+    ensures files { OnOk result ((bytes : Listed ℕ) (files : FileList) → AreEntries bytes entries.old files → AreEntries bytes entries.new (with_serials files)) }
 {
-    let name = names::serials();
+    let name = pt_left::serials();
     for (i, entry) in entries.items().iter().enumerate() {
         match entry.name.cmp(&name) {
             Ordering::Less => {}

@@ -1,7 +1,7 @@
 //! Writing the spelling of a map.
 ghost use Rattle.std.specs.Prelude.{◌≡◌, ◌++◌, All, IfOk, OnOk};
 ghost use Rattle.pt_host.specs.Name.{IsName};
-ghost use Rattle.pt_store.specs.Spelling.{spelled_file, IsFile, SpellsFiles};
+ghost use Rattle.pt_left.specs.Spelling.{spelled_file, IsFile, SpellsFiles};
 ghost use Rattle.pt_store.specs.Entries.{AreEntries};
 
 use crate::entry::Entry;

@@ -1,13 +1,13 @@
-ghost use Rattle.std.specs.Prelude.{◌≡◌, ℕ, false, List as Listed, length, map, Some, None, IfOk, OnOk, IsSome, IsTrue, Contains, slice_get};
+ghost use Rattle.std.specs.Prelude.{◌≡◌, false, length, map, Some, IfOk, IsSome, IsTrue, Contains, slice_get};
 ghost use Rattle.std.specs.Option.{option_map};
 ghost use Rattle.pt_host.specs.Disk.{EachImage, IsAtRest, shown};
-ghost use Rattle.pt_host.specs.Listed.{AreRising, by_name};
-ghost use Rattle.pt_host.specs.World.{World, IsQuiet, OnlyLooks};
-ghost use Rattle.pt_host.specs.Replacement.{AsBeforeBut};
-ghost use Rattle.pt_store.specs.Left.{whole_name, shadow_name, serials_name, Left, IsLeft, IsEither, AsBeforeButOwn};
-ghost use Rattle.pt_store.specs.Stops.{IsCounted, IfBad, OnFault, OnNoMemory};
+ghost use Rattle.pt_host.specs.Listed.{FileList, AreRising, by_name};
+ghost use Rattle.pt_host.specs.World.{World, IsQuiet};
+ghost use Rattle.pt_left.specs.Left.{serials_name, IsLeft, IsWhole, NoneLeft, AsBeforeButOwn};
+ghost use Rattle.pt_store.specs.Stops.{ByStop, IsCounted, IfBad};
+ghost use Rattle.pt_store.specs.Step.{HasSizes, IsLook, IsStep, OnlyClears};
 ghost use Rattle.pt_store.specs.Entries.{length_in};
-ghost use Rattle.pt_store.specs.Store.{IsStore, IsStanding, is_live, sizes, sizes_of};
+ghost use Rattle.pt_store.specs.Store.{IsStore, IsStanding, is_live, sizes};
 
 use crate::Stop;
 use crate::disk::{clear_shadow, read_entries, read_range};
@@ -15,7 +15,7 @@ use crate::entry::{Entry, entry_of, length_of, name_of};
 use crate::serials::add_serials;
 use crate::spell::spell;
 use crate::swap::replace_whole;
-use pt_host::{Files, Host, Name};
+use pt_host::{FileList, Host, Name};
 use pt_plain::List;
 use std::alloc::Global;
 
@@ -25,6 +25,7 @@ use std::alloc::Global;
 /// old map or the new one, and only another `attach` tells which.
 #[derive(Debug, Drop)]
 pub struct Store {
+    alloc: Global,
     entries: List<Entry>,
     live: bool,
 }
@@ -35,15 +36,11 @@ impl Store {
     pub fn attach<H: Host>(alloc: Global, host: &mut H) -> Result<Store, Stop>
         requires entered { H.tells → IsSome (H.world host.old).dir }
         requires rest { H.tells → IsAtRest (H.world host.old).now.fs }
-        // It stands for the map that the directory stood for.
-        ensures stands { IfOk result (λ store. H.tells → (files : Listed (Listed ℕ × Listed ℕ)) × EachImage (H.world host.old).now.fs (IsLeft files) × IsStore store files (H.world host.new)) }
-        // At every moment, whatever is answered, the directory stands for that map.
-        ensures left { H.tells → (files : Listed (Listed ℕ × Listed ℕ)) → EachImage (H.world host.old).now.fs (IsLeft files) → IsQuiet (H.world host.old) (H.world host.new) (IsLeft files) }
-        // At every moment, also where the directory stands for no map, no other file than the shadow has changed.
-        ensures quiet { H.tells → IsQuiet (H.world host.old) (H.world host.new) (AsBeforeBut (H.world host.old).now.fs shadow_name) }
-        // Where no shadow was left it only looks.
-        ensures looks { H.tells → shown (H.world host.old).now.fs shadow_name ≡ None → OnlyLooks (H.world host.old) (H.world host.new) }
-        ensures bad { IfBad result (λ name place. (name ≡ whole_name) × (place ≡ 0) × (H.tells → (files : Listed (Listed ℕ × Listed ℕ)) → Left (shown (H.world host.old).now.fs) files → ⊥)) }
+        // The store stands for the map that the directory stood for.
+        ensures stands { IfOk result (λ store. H.tells → (files : FileList) × EachImage (H.world host.old).now.fs (IsLeft files) × IsStore store files (H.world host.new)) }
+        // At every moment, whatever is answered, a leftover shadow is removed at most.
+        ensures clears { H.tells → OnlyClears (H.world host.old) (H.world host.new) }
+        ensures bad { IfBad result (λ name place. IsWhole name place × (H.tells → NoneLeft (shown (H.world host.old).now.fs))) }
         ensures live { IfOk result (λ store. IsTrue (is_live store)) }
         ensures serials { IfOk result (λ store. IsSome (length_in (sizes store) serials_name)) }
         ensures counts { IsCounted (H.counts host.old) (H.counts host.new) result }
@@ -52,6 +49,7 @@ impl Store {
         let mut entries = read_entries(alloc, host)?;
         add_serials(&mut entries)?;
         Ok(Store {
+            alloc,
             entries,
             live: true,
         })
@@ -67,7 +65,7 @@ impl Store {
     /// How many files the map has.
     pub fn count(&self) -> usize
         ensures value { result ≡ length (sizes self.now) }
-        ensures map { (files : Listed (Listed ℕ × Listed ℕ)) (w : World) → IsStore self.now files w → result ≡ length files }
+        ensures map { (files : FileList) (w : World) → IsStore self.now files w → result ≡ length files }
     {
         self.entries.items().len()
     }
@@ -75,7 +73,7 @@ impl Store {
     /// The i-th name, counted from 0 in rising byte order. `None` exactly where there are no more than i.
     pub fn name_at(&self, i: usize) -> Option<Name>
         ensures value { result ≡ option_map (λ size. size.0) (slice_get (sizes self.now) i) }
-        ensures map { (files : Listed (Listed ℕ × Listed ℕ)) (w : World) → IsStore self.now files w → result ≡ option_map (λ file. file.0) (slice_get files i) }
+        ensures map { (files : FileList) (w : World) → IsStore self.now files w → result ≡ option_map (λ file. file.0) (slice_get files i) }
     {
         name_of(self.entries.items(), i)
     }
@@ -83,55 +81,46 @@ impl Store {
     /// The length of the file of this name in bytes. `None` exactly where the map has no such file.
     pub fn length(&self, name: &Name) -> Option<u64>
         ensures value { result ≡ length_in (sizes self.now) name.now }
-        ensures map { (files : Listed (Listed ℕ × Listed ℕ)) (w : World) → IsStore self.now files w → result ≡ option_map length (by_name files name.now) }
+        ensures map { (files : FileList) (w : World) → IsStore self.now files w → result ≡ option_map length (by_name files name.now) }
     {
         length_of(self.entries.items(), name)
     }
 
     /// The bytes of the file of this name, which the map has.
-    pub fn read<H: Host>(&self, alloc: Global, host: &mut H, name: &Name) -> Result<Vec<u8>, Stop>
+    pub fn read<H: Host>(&self, host: &mut H, name: &Name) -> Result<Vec<u8>, Stop>
         requires live { IsTrue (is_live self.now) }
         requires held { IsSome (length_in (sizes self.now) name.now) }
         requires stands { H.tells → IsStanding self.now (H.world host.old) }
-        ensures bytes { IfOk result (λ v. H.tells → (files : Listed (Listed ℕ × Listed ℕ)) → IsStore self.now files (H.world host.old) → by_name files name.now ≡ Some v.items) }
-        // It touches no file, so the store stands for its map still.
-        ensures looks { H.tells → OnlyLooks (H.world host.old) (H.world host.new) }
-        ensures bad { IfBad result (λ name place. (name ≡ whole_name) × (place ≡ 0) × (H.tells → ⊥)) }
+        ensures bytes { IfOk result (λ v. H.tells → (files : FileList) → IsStore self.now files (H.world host.old) → by_name files name.now ≡ Some v.items) }
+        // It touches no file, and the store stands for its map still.
+        ensures told { H.tells → (files : FileList) → IsStore self.now files (H.world host.old) → IsLook self.now files (H.world host.old) (H.world host.new) }
+        ensures bad { IfBad result (λ name place. IsWhole name place × (H.tells → ⊥)) }
         ensures counts { IsCounted (H.counts host.old) (H.counts host.new) result }
     {
         let entry = entry_of(self.entries.items(), name).unwrap();
         if entry.length == 0 {
-            return Ok(Vec::new(alloc));
+            return Ok(Vec::new(self.alloc));
         }
-        let bytes = read_range(alloc, host, entry.place, entry.length)?;
+        let bytes = read_range(self.alloc, host, entry.place, entry.length)?;
         Ok(bytes)
     }
 
     /// Puts this map in the place of the old one. `NoMemory` leaves all as it was. After `Fault` the store is no
     /// longer live.
-    pub fn replace<H: Host>(
-        &mut self,
-        alloc: Global,
-        host: &mut H,
-        files: &Files,
-    ) -> Result<(), Stop>
+    pub fn replace<H: Host>(&mut self, host: &mut H, files: &FileList) -> Result<(), Stop>
         requires live { IsTrue (is_live self.old) }
         requires rising { AreRising files.now }
         requires serials { Contains (map (λ file. file.0) files.now) serials_name }
         requires stands { H.tells → IsStanding self.old (H.world host.old) }
-        ensures stands { OnOk result (H.tells → IsStore self.new files.now (H.world host.new)) }
         // At every moment, whatever is answered, the directory stands for the old map or the new one.
-        ensures left { H.tells → (old : Listed (Listed ℕ × Listed ℕ)) → IsStore self.old old (H.world host.old) → IsQuiet (H.world host.old) (H.world host.new) (IsEither old files.now) }
+        ensures told { H.tells → (old : FileList) → IsStore self.old old (H.world host.old) → IsStep self.new old files.now (H.world host.old) (H.world host.new) result }
         // At every moment no other file than its own two has changed.
         ensures others { H.tells → IsQuiet (H.world host.old) (H.world host.new) (AsBeforeButOwn (H.world host.old).now.fs) }
-        ensures sizes { OnOk result (sizes self.new ≡ sizes_of files.now) }
-        ensures live { OnOk result (IsTrue (is_live self.new)) }
-        ensures memory { OnNoMemory result ((self.new ≡ self.old) × (H.tells → H.world host.new ≡ H.world host.old)) }
-        ensures fault { OnFault result (is_live self.new ≡ false) }
+        ensures after { ByStop result (HasSizes self.new files.now) ((self.new ≡ self.old) × (H.tells → H.world host.new ≡ H.world host.old)) (is_live self.new ≡ false) }
         ensures bad { IfBad result (λ name place. ⊥) }
         ensures counts { IsCounted (H.counts host.old) (H.counts host.new) result }
     {
-        let (bytes, entries) = spell(alloc, files.items())?;
+        let (bytes, entries) = spell(self.alloc, files.items())?;
         self.live = false;
         replace_whole(host, bytes.as_slice())?;
         self.entries = entries;

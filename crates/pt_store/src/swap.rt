@@ -4,10 +4,9 @@ ghost use Rattle.pt_host.specs.World.{IsQuiet};
 ghost use Rattle.pt_host.specs.Counts.{DiskCall};
 ghost use Rattle.pt_host.specs.Images.{IsHeld};
 ghost use Rattle.pt_host.specs.Replacement.{AsBeforeBut, IsBeforeOrAfter, IsClear, IsReady};
-ghost use Rattle.pt_store.specs.Left.{whole_name, shadow_name};
+ghost use Rattle.pt_left.specs.Left.{whole_name, shadow_name};
 
 use crate::disk::clear_shadow;
-use crate::names;
 use pt_host::{Host, HostFail};
 
 /// Replaces `whole.map` by these bytes. Whatever a stop leaves, it is the old file or the new one.
@@ -21,7 +20,7 @@ pub(crate) fn replace_whole<H: Host>(host: &mut H, bytes: &[u8]) -> Result<(), H
 {
     clear_shadow(host)?;
     fill_shadow(host, bytes)?;
-    host.rename(&names::shadow(), &names::whole())?;
+    host.rename(&pt_left::shadow(), &pt_left::whole())?;
     host.sync_names()?;
     Ok(())
 }
@@ -33,7 +32,7 @@ fn fill_shadow<H: Host>(host: &mut H, bytes: &[u8]) -> Result<(), HostFail>
     ensures quiet { H.tells → IsQuiet (H.world host.old) (H.world host.new) (AsBeforeBut (H.world host.old).now.fs shadow_name) }
     ensures counts { DiskCall (H.counts host.old) (H.counts host.new) result }
 {
-    let shadow = names::shadow();
+    let shadow = pt_left::shadow();
     host.create(&shadow)?;
     host.write_at(&shadow, 0, bytes)?;
     host.sync(&shadow)?;

@@ -15,7 +15,7 @@ use Rattle.std.proofs.lemmas.Map.Lookups.{exact_bytes}
 use Rattle.std.proofs.lemmas.Map.Keys.{sorted_head, sorted_tail}
 use Rattle.std.proofs.lemmas.List.{get_or-map, length-map}
 use Rattle.std.proofs.lemmas.List.Elements.{recursion_from_All, All-from_recursion}
-use Rattle.pt_host.specs.Listed.{by_name}
+use Rattle.pt_host.specs.Listed.{FileList, by_name}
 use Rattle.pt_host.proofs.Names.{cases_name, differs}
 use Rattle.pt_flat.specs.declared.data.Table.{Table}
 use Rattle.pt_flat.specs.declared.data.Db.{Db}
@@ -26,14 +26,14 @@ use Rattle.pt_table_files.specs.Definition.{definition}
 use Rattle.pt_table_files.specs.Records.{rows_text, SpellsRows}
 use Rattle.pt_table_files.specs.Counter.{SpellsCounter}
 use Rattle.pt_table_files.specs.FileNames.{definition_name, rows_name, counter_name}
-use Rattle.pt_table_files.specs.Holds.{HasTable, HasNoStray, HoldsBy, names}
+use Rattle.pt_table_files.specs.Holds.{HasTable, HasNoStray, Holds, names}
 use Rattle.pt_table_files.specs.Canonical.{with_file, with_table, with_tables, map_of}
 use Rattle.pt_table_files.proofs.NameTexts.{definition_name_one, rows_name_one, definition_not_rows, definition_not_counter, rows_not_counter, leaf_not_rows}
 use Rattle.pt_table_files.proofs.Collected.{named_table}
 use Rattle.pt_table_files.proofs.CanonicalRows.{CanPut, canonical_rows}
 
 abbrev Map : Type 0
-Map = List (List ℕ × List ℕ)
+Map = FileList
 
 -- # One file more
 
@@ -233,7 +233,7 @@ written_rows next table most sound =
     over P each k d within =
         subst P (get_or-map (λ (row : ℕ × ℤ). row.0) table.rows k d d.0 within) (each k d.0 (omega (arith, length-map table.rows (λ (row : ℕ × ℤ). row.0))))
 
-pub canonical_holds : (db : Db) → IsSound db → HoldsBy (by_name (map_of db)) db
+pub canonical_holds : (db : Db) → IsSound db → Holds (by_name (map_of db)) db
 canonical_holds db sound =
     let most : db.next ≤ 2 ^ 62 = sound.most in
     let written : AllByRecursion IsWritten db.tables =

@@ -14,13 +14,13 @@ use Rattle.std.proofs.lemmas.List.Elements.{recursion_from_All, All-map}
 use Rattle.std.proofs.lemmas.Map.Text.{is_eq-slice_cmp}
 use Rattle.std.proofs.lemmas.Map.Views.{All-found, Contains-keys_from_lookup}
 use Rattle.pt_host.specs.Disk.{Files}
-use Rattle.pt_host.specs.Listed.{by_name}
+use Rattle.pt_host.specs.Listed.{FileList, by_name}
 use Rattle.pt_flat.specs.declared.data.Table.{Table}
 use Rattle.pt_flat.specs.Word.{IsWord}
 use Rattle.pt_flat.proofs.Sound.{no_table}
 use Rattle.pt_table_files.specs.FileNames.{definition_name}
 use Rattle.pt_table_files.specs.Holds.{HasTable, HasTables, names}
-use Rattle.pt_table_files.proofs.Lookups.{all_present}
+use Rattle.pt_host.proofs.Lookups.{all_present}
 
 abbrev pub by_bytes : List ℕ → List ℕ → Ordering
 by_bytes = slice_cmp nat_cmp
@@ -50,7 +50,7 @@ pub some_here : (old new : BTreeMap (List ℕ) Table) (name : List ℕ) (table :
 some_here old new name table updates = ap is_some updates.1
 
 -- what holds of each file so far, and of this one, holds of one file more
-pub file_more : (P : List ℕ → Type 0) (files : List (List ℕ × List ℕ)) (i : ℕ) (item : List ℕ × List ℕ) → i < length files → item ≡ get_or files i item
+pub file_more : (P : List ℕ → Type 0) (files : FileList) (i : ℕ) (item : List ℕ × List ℕ) → i < length files → item ≡ get_or files i item
     → ((k : ℕ) (d : List ℕ × List ℕ) → k < i → P (get_or files k d).0) → P item.0 → (k : ℕ) (d : List ℕ × List ℕ) → k < i + 1 → P (get_or files k d).0
 file_more P files i item within is old here k d below =
     elim (cases_lt k i) [
@@ -83,7 +83,7 @@ pub names_are_keys : (files : Files) (m : BTreeMap (List ℕ) Table) → IsOrder
 names_are_keys files m ordered each =
     same_names m.entries (recursion_from_All (λ (e : List ℕ × Table). e.1.name ≡ e.0) m.entries (λ k d below. (at_entry files m ordered each k d below).0))
 
-pub collected : (files : List (List ℕ × List ℕ)) (m : BTreeMap (List ℕ) Table) → IsOrdered by_bytes m → ((q : List ℕ) → IfSome (get by_bytes m q) (IsTableAt (by_name files) q))
+pub collected : (files : FileList) (m : BTreeMap (List ℕ) Table) → IsOrdered by_bytes m → ((q : List ℕ) → IfSome (get by_bytes m q) (IsTableAt (by_name files) q))
     → ((k : ℕ) (d : List ℕ × List ℕ) → k < length files → (table : List ℕ) → IsWord table → (get_or files k d).0 ≡ definition_name table → IsSome (get by_bytes m table))
     → HasTables (by_name files) (values_of m.entries)
 collected files m ordered each all = record {

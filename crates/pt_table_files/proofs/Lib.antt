@@ -6,13 +6,13 @@ pub mod RecordTexts
 pub mod DefinitionTexts
 pub mod Reading
 pub mod NameTexts
-pub mod Lookups
 pub mod Strays
 pub mod TableLemmas
 pub mod Collected
-pub mod Sorted
 pub mod OneDatabase
 pub mod Distinct
 pub mod SoundTables
 pub mod CanonicalRows
 pub mod CanonicalMap
+pub mod EmptyDirectory
+pub mod Directories

@@ -16,14 +16,14 @@ use Rattle.pt_table_files.specs.Definition.{definition}
 use Rattle.pt_table_files.specs.Records.{after, with_values, Spells, SpellsRows}
 use Rattle.pt_table_files.specs.Counter.{SpellsCounter}
 use Rattle.pt_table_files.specs.FileNames.{definition_name, rows_name}
-use Rattle.pt_table_files.specs.Holds.{HasTable, HasTables, HoldsBy, names}
+use Rattle.pt_table_files.specs.Holds.{HasTable, HasTables, Holds, names}
 use Rattle.pt_table_files.proofs.NumberBytes.{length-le64, le64_one, same_parts}
 use Rattle.pt_table_files.proofs.NameTexts.{same_ends}
 use Rattle.pt_table_files.proofs.DefinitionTexts.{head, end, one_column, definition_is}
 use Rattle.pt_table_files.proofs.Reading.{Read, Parts, AreTexts, text_of, left_by, spells_rest, spells_end, first_step}
 use Rattle.pt_table_files.proofs.TableLemmas.{defined_so, rows_so}
 use Rattle.pt_table_files.proofs.Collected.{named_table}
-use Rattle.pt_table_files.proofs.Sorted.{same_sorted}
+use Rattle.pt_plain.proofs.Sorted.{same_sorted}
 
 no_number : (before : List ℕ) (n : ℕ) → [] ≡ before ++ le64 n → ⊥
 no_number before n e = omega (arith, ap length e, length-append before (le64 n), length-le64 n)
@@ -112,7 +112,7 @@ tables_one files a b ahas bhas arising brising =
     same_tables files a b (same_sorted nat_list_cmp_total (names a) (names b) arising brising (name_too files a b ahas bhas) (name_too files b a bhas ahas))
     (recursion_from_All (HasTable files) a ahas.each) (recursion_from_All (HasTable files) b bhas.each)
 
-pub holds_one : (files : Files) (a b : Db) → HoldsBy files a → HoldsBy files b → a ≡ b
+pub holds_one : (files : Files) (a b : Db) → Holds files a → Holds files b → a ≡ b
 holds_one files a b x y =
     ap₂ (λ t n. let it : Db = record { tables = t; next = n } in it)
     (tables_one files a.tables b.tables x.tables y.tables x.sound.rising y.sound.rising)

@@ -15,16 +15,16 @@ use Rattle.pt_flat.specs.declared.data.Table.{Table}
 use Rattle.pt_flat.specs.declared.data.Db.{Db}
 use Rattle.pt_flat.specs.Step.{is_int}
 use Rattle.pt_flat.specs.Sound.{IsSoundTable, serials}
-use Rattle.pt_flat.proofs.Pairs.{all_left, all_right, all_flat_map}
-use Rattle.pt_flat.proofs.Rising.{sorted_nil}
+use Rattle.pt_plain.proofs.Pairs.{all_left, all_right, all_flat_map}
+use Rattle.pt_plain.proofs.Rising.{sorted_nil}
 use Rattle.pt_flat.proofs.Sound.{sound_empty}
 use Rattle.pt_table_files.specs.declared.record.Record.{Record}
 use Rattle.pt_table_files.specs.declared.record.Record.TheVariants.{Put, Delete}
 use Rattle.pt_table_files.specs.Records.{IsBody, HasValue, has_row, may_put, after, with_values, SpellsRows}
 use Rattle.pt_table_files.specs.Counter.{SpellsCounter}
 use Rattle.pt_table_files.specs.FileNames.{rows_name, counter_name}
-use Rattle.pt_table_files.specs.Holds.{HasTable, HasTables, HasNoStray, HoldsBy, names}
-use Rattle.pt_table_files.proofs.Sorted.{rising_insert, rising_remove}
+use Rattle.pt_table_files.specs.Holds.{HasTable, HasTables, HasNoStray, Holds, names}
+use Rattle.pt_plain.proofs.Sorted.{rising_insert, rising_remove}
 use Rattle.pt_table_files.proofs.Reading.{Read, Parts, AreTexts, left_by, first_step}
 use Rattle.pt_table_files.proofs.CounterLemmas.{no_numbers}
 use Rattle.pt_table_files.proofs.OneDatabase.{counter_one, tables_one}
@@ -137,7 +137,7 @@ AreSerials tables next = All (λ serial. serial < next) (flat_map serials tables
 
 module _ (files : Files) (tables : List Table) (next : ℕ) where
   pub holds_all : HasNoStray files → SpellsCounter (unwrap_or (files counter_name) []) next → HasTables files tables → IsStrictlySortedBy (slice_cmp nat_cmp) (names tables) → AreSerials tables next
-      → HoldsBy files (record { tables = tables; next = next })
+      → Holds files (record { tables = tables; next = next })
   holds_all no_stray counter has rising numbers =
       let parts : All (λ table. All (λ serial. serial < next) (serials table)) tables = all_parts (λ serial. serial < next) tables numbers.0 in
       record {
@@ -154,7 +154,7 @@ module _ (files : Files) (tables : List Table) (next : ℕ) where
       }
 
   -- A database that is held has these tables and this next serial, so its serials are theirs.
-  pub held_serials : (db : Db) → HoldsBy files db → SpellsCounter (unwrap_or (files counter_name) []) next → HasTables files tables → IsStrictlySortedBy (slice_cmp nat_cmp) (names tables) → AreSerials tables next
+  pub held_serials : (db : Db) → Holds files db → SpellsCounter (unwrap_or (files counter_name) []) next → HasTables files tables → IsStrictlySortedBy (slice_cmp nat_cmp) (names tables) → AreSerials tables next
   held_serials db holds counter has rising =
       let below : All (λ serial. serial < db.next) (flat_map serials db.tables) =
       all_flat_map (λ serial. serial < db.next) serials db.tables (All-weaker (IsSoundTable db.next) (λ table. All (λ serial. serial < db.next) (serials table)) (λ table s. s.below) db.tables holds.sound.tables) in
@@ -163,7 +163,7 @@ module _ (files : Files) (tables : List Table) (next : ℕ) where
       subst (λ n. AreSerials tables n) next_is (subst (λ t. AreSerials t db.next) same (below, holds.sound.once))
 
 -- no files hold the database with no table
-pub holds_nothing : HoldsBy (λ name. None) (record { tables = []; next = 1 })
+pub holds_nothing : Holds (λ name. None) (record { tables = []; next = 1 })
 holds_nothing = record {
   sound = sound_empty;
   tables = record {

@@ -1,14 +1,14 @@
 -- The names of a database's files. All other names are ignored.
-use Rattle.std.specs.Prelude.{ℕ, Bool, ◌&&◌, not, nat_le, List, [], ◌∷◌, ◌++◌, All, IsTrue}
+use Rattle.std.specs.Prelude.{ℕ, Bool, ◌&&◌, not, nat_le, List, ◌∷◌, ◌++◌, All, IsTrue, codes}
 use Rattle.pt_flat.specs.Word.{IsWord}
 
--- `.def`
+-- the end of a definition's name
 abbrev pub definition_end : List ℕ
-definition_end = 46 ∷ 100 ∷ 101 ∷ 102 ∷ []
+definition_end = codes ".def"
 
--- `.rows`
+-- the end of a row file's name
 abbrev pub rows_end : List ℕ
-rows_end = 46 ∷ 114 ∷ 111 ∷ 119 ∷ 115 ∷ []
+rows_end = codes ".rows"
 
 -- the file of a table's definition
 abbrev pub definition_name : List ℕ → List ℕ
@@ -22,9 +22,9 @@ rows_name table = table ++ rows_end
 abbrev pub leaf_name : List ℕ → List ℕ → List ℕ
 leaf_name table leaf = (table ++ 35 ∷ leaf) ++ rows_end
 
--- `serials.cnt`
+-- the file of the next serial
 abbrev pub counter_name : List ℕ
-counter_name = 115 ∷ 101 ∷ 114 ∷ 105 ∷ 97 ∷ 108 ∷ 115 ∷ 46 ∷ 99 ∷ 110 ∷ 116 ∷ []
+counter_name = codes "serials.cnt"
 
 abbrev pub is_upper : ℕ → Bool
 is_upper b = nat_le 65 b && nat_le b 90

@@ -1,7 +1,6 @@
 -- The database that files hold.
 use Rattle.std.specs.Prelude.{◌≡◌, ℕ, List, [], map, Some, unwrap_or, IsSome, IsSomeAnd, All, Contains}
 use Rattle.pt_host.specs.Disk.{Files}
-use Rattle.pt_host.specs.Listed.{by_name}
 use Rattle.pt_flat.specs.declared.data.Table.{Table}
 use Rattle.pt_flat.specs.declared.data.Db.{Db}
 use Rattle.pt_flat.specs.Word.{IsWord}
@@ -35,12 +34,8 @@ abbrev pub HasNoStray : Files → Type 0
 HasNoStray files = (name : List ℕ) → IsSome (files name) → IsNoStray files name
 
 -- The files hold this database: its tables and no others, no stray rows, and its next serial.
-pub record HoldsBy (files : Files) (db : Db) : Type 0 where
+pub record Holds (files : Files) (db : Db) : Type 0 where
   pub sound : IsSound db
   pub tables : HasTables files db.tables
   pub no_stray : HasNoStray files
   pub counter : SpellsCounter (unwrap_or (files counter_name) []) db.next
-
--- listed files hold this database
-abbrev pub Holds : List (List ℕ × List ℕ) → Db → Type 0
-Holds files db = HoldsBy (by_name files) db

@@ -5,4 +5,5 @@ pub mod Records
 pub mod Counter
 pub mod FileNames
 pub mod Holds
+pub mod Directory
 pub mod Canonical

@@ -1,4 +1,4 @@
-ghost use Rattle.std.specs.Prelude.{◌≡◌, List, ℕ, [], unwrap_or, IfSome, IfNone, IfOk};
+ghost use Rattle.std.specs.Prelude.{ℕ, [], unwrap_or, IfSome, IfNone, IfOk};
 ghost use Rattle.pt_host.specs.Listed.{AreRising, by_name};
 ghost use Rattle.pt_flat.specs.declared.data.Db.{Db};
 ghost use Rattle.pt_table_files.specs.Counter.{SpellsCounter};
@@ -11,15 +11,15 @@ use crate::names::counter_name;
 use crate::serials::are_serials_below;
 use crate::tables::tables_of;
 use pt_flat::Db;
-use pt_host::{Files, Name};
+use pt_host::{FileList, Name};
 use pt_plain::List;
 use std::alloc::{AllocError, Global};
 
 /// The database that these files hold. `None` exactly where they hold none.
-pub fn db_of(alloc: Global, files: &Files) -> Result<Option<Db>, AllocError>
+pub fn db_of(alloc: Global, files: &FileList) -> Result<Option<Db>, AllocError>
     requires { AreRising files.now }
-    ensures some { IfOk result (λ found. IfSome found (λ db. Holds files.now db)) }
-    ensures none { IfOk result (λ found. IfNone found ((db : Db) → Holds files.now db → ⊥)) }
+    ensures some { IfOk result (λ found. IfSome found (λ db. Holds (by_name files.now) db)) }
+    ensures none { IfOk result (λ found. IfNone found ((db : Db) → Holds (by_name files.now) db → ⊥)) }
 {
     let files = files.items();
     if !has_no_stray(files) {
@@ -47,13 +47,3 @@ fn counter_of(files: &[(Name, List<u8>)]) -> Option<u64>
         None => Some(1),
     }
 }
-
-/// A map holds at most one database.
-pub fn one_database()
-    ensures { (files : List (List ℕ × List ℕ)) (a b : Db) → Holds files a → Holds files b → a ≡ b }
-{}
-
-/// Where there are no files, they hold the database with no table.
-pub fn no_files()
-    ensures { Holds [] (record { tables = []; next = 1 }) }
-{}

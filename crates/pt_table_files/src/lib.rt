@@ -1,6 +1,6 @@
 //! The bytes of a database's files: which files hold which database, both ways. No file is touched here.
 //!
-//! A database is kept as a map from file names to bytes (`pt_host::Files`). A table has two files, its definition `T.def`
+//! A database is kept as a map from file names to bytes (`pt_host::FileList`). A table has two files, its definition `T.def`
 //! and its rows `T.rows`, and `serials.cnt` has the next serial. All numbers stand with their lowest byte first.
 //!
 //! - `T.def`: the bytes `PTD` and 1, a u64 length of all that follows it, a u32 number of columns, here 1, the column (a u8
@@ -17,10 +17,12 @@
 //!
 //! - `db_of` answers the database that files hold, and none exactly where they hold none.
 //! - `files_of` answers the canonical map of a database (`map_of` of `specs/Canonical.antt`), which holds it.
-//! - `one_database`: files hold at most one database. `no_files`: where there are none, it is the one with no table.
+//! - `one_database`: files hold at most one database, and none at all the one with no table.
+//! - `holds_one_database`: so does a directory, by the map that it stands for (`HoldsIn` of `specs/Directory.antt`, where
+//!   damage has its name too).
 //!
 //! The smaller calls go both ways for a definition, for rows and for the counter, each exact. It stands on `pt_flat`,
-//! `pt_host` and `pt_plain`.
+//! `pt_left`, `pt_host` and `pt_plain`.
 #![tactic(auto)]
 
 mod bytes;
@@ -29,6 +31,7 @@ mod cells;
 mod counter;
 mod database;
 mod definition;
+mod law;
 mod lookup;
 mod names;
 mod record;
@@ -38,7 +41,8 @@ mod tables;
 
 pub use canonical::files_of;
 pub use counter::{counter_bytes, next_of};
-pub use database::{db_of, no_files, one_database};
+pub use database::db_of;
 pub use definition::{column_of, definition_of};
+pub use law::{holds_one_database, one_database};
 pub use record::Record;
 pub use rows::{rows_bytes, rows_of};

@@ -3,6 +3,7 @@ use Rattle.std.proofs.Common.{◌≡◌, ℕ, ◌<◌, ◌≤◌, Bool, true, fa
 use Rattle.std.specs.Prelude.{is_some, nat_le, ◌&&◌}
 use Rattle.std.specs.List.{list_all, take_while}
 use native.Mathlib.Numerals.{one-add}
+use Rattle.pt_plain.proofs.Fronts.{take_while-all, take_while-first}
 use Rattle.pt_token.specs.declared.state.State.TheVariants.{Plain}
 use Rattle.pt_token.specs.Machine.{is_cut, run}
 use Rattle.pt_token.specs.Pieces.{closed, cuts, fits, most_piece, most_script, pieces, pieces_after}
@@ -10,27 +11,11 @@ use Rattle.pt_token.specs.Splitting.{next_cut, piece_after}
 use Rattle.pt_token.specs.Laws.{fed_pieces, unread}
 use Rattle.pt_token.proofs.Feeding.{pieces-fed}
 
-both : (a b : Bool) → (a && b) ≡ true → (a ≡ true) × (b ≡ true)
-both true true e = (refl, refl)
-both true false e = let bad : false ≡ true = e in cc
-both false b e = let bad : false ≡ true = e in cc
-
 short_fits : (n m : ℕ) → n ≤ m → nat_le n m ≡ true
 short_fits n m h = grind arith
 
 long_fits : (n m : ℕ) → m < n → nat_le n m ≡ false
 long_fits n m h = grind arith
-
-while_pass : (p : List ℕ → Bool) (x : List ℕ) (xs : List (List ℕ)) → p x ≡ true → take_while p (x ∷ xs) ≡ x ∷ take_while p xs
-while_pass p x xs e = rw (e, one-add) refl
-
-while_all : (p : List ℕ → Bool) (xs : List (List ℕ)) → list_all p xs ≡ true → take_while p xs ≡ xs
-while_all p [] e = refl
-while_all p (x ∷ xs) e = let h = both (p x) (list_all p xs) e in while_pass p x xs h.0 ∙ ap (λ ys. x ∷ ys) (while_all p xs h.1)
-
-while_first : (p : List ℕ → Bool) (xs : List (List ℕ)) (y : List ℕ) (ys : List (List ℕ)) → list_all p xs ≡ true → p y ≡ false → take_while p (xs ++ y ∷ ys) ≡ xs
-while_first p [] y ys e f = rw f refl
-while_first p (x ∷ xs) y ys e f = let h = both (p x) (list_all p xs) e in while_pass p x (xs ++ y ∷ ys) h.0 ∙ ap (λ zs. x ∷ zs) (while_first p xs y ys h.1 f)
 
 cuts_within : (script : List ℕ) → length script ≤ most_script → cuts script ≡ take_while fits (pieces script)
 unfolding cuts
@@ -61,7 +46,7 @@ fed_first piece bytes rest = go (is_some (next_cut piece bytes))
     go false = first_piece (piece_after piece bytes) (unread piece bytes ++ rest)
 
 pub cuts_are_all : (script : List ℕ) → length script ≤ most_script → list_all fits (pieces script) ≡ true → cuts script ≡ pieces script
-cuts_are_all script short fit = cuts_within script short ∙ while_all fits (pieces script) fit
+cuts_are_all script short fit = cuts_within script short ∙ take_while-all fits (pieces script) fit
 
 pub cuts_end : (script : List ℕ) (found : List (List ℕ)) (piece bytes rest : List ℕ) → length script ≤ most_script → list_all fits found ≡ true
     → pieces script ≡ found ++ pieces_after piece (bytes ++ rest) → most_piece < length (piece_after piece bytes) → cuts script ≡ found
@@ -69,4 +54,4 @@ cuts_end script found piece bytes rest short fit cut long =
     let first = fed_first piece bytes rest in
     cuts_within script short
     ∙ ap (take_while fits) (cut ∙ ap (λ ps. found ++ ps) (pieces-fed piece bytes rest ∙ first.is))
-    ∙ while_first fits found first.piece first.others fit (long_fits (length first.piece) most_piece (omega (arith, first.no_shorter)))
+    ∙ take_while-first fits found first.piece first.others fit (long_fits (length first.piece) most_piece (omega (arith, first.no_shorter)))

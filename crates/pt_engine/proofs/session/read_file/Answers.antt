@@ -10,3 +10,9 @@ returns-clause-read g c tells files store =
     file_read files c.args.i c.unwrap-name.result c.of.result (store_rises _ files _ (g.met.H.Host.sound c.args.host.now tells) store)
     (sym (c.name_at.ensures.map files _ store) ∙ c.unwrap-name.ensures)
     (c.in_ok-bytes.ensures.bytes tells files store ∙ ap Some (sym c.of.ensures))
+
+pub returns-in_err-bytes-clause-looks : goal.returns-in_err-bytes-clause-looks
+returns-in_err-bytes-clause-looks g c tells = let s = c.requires.stands tells in (c.in_err-bytes.ensures.told tells s.0 s.1).looks
+
+pub returns-clause-looks : goal.returns-clause-looks
+returns-clause-looks g c tells = let s = c.requires.stands tells in (c.in_ok-bytes.ensures.told tells s.0 s.1).looks

@@ -1,4 +1,4 @@
-use Rattle.pt_store.specs.Left.{serials_name}
+use Rattle.pt_left.specs.Left.{serials_name}
 use Rattle.pt_file_cases.proofs.Named.{has_name}
 use Rattle.pt_file_cases.proofs.replacing.has_serials.Goals as goal
 

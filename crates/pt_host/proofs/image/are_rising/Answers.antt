@@ -2,8 +2,8 @@ use Rattle.std.proofs.Common.{rules}
 use Rattle.std.specs.Cmp.Lexicographic.{slice_cmp}
 use Rattle.std.specs.Ordering.{nat_cmp, is_lt}
 use Rattle.std.proofs.lemmas.List.Sorted.{answers_always}
-use Rattle.pt_host.proofs.Rising.{rising_answer}
+use Rattle.pt_plain.proofs.Neighbours.{rising_by}
 use Rattle.pt_host.proofs.image.are_rising.Goals as goal
 
 pub returns : goal.returns
-returns c = rising_answer c.args.files.now c.is_sorted_by.result (c.is_sorted_by.ensures.cases (λ x y. is_lt (slice_cmp nat_cmp x.0 y.0)) (answers_always _ _ _ (λ f a r g called. search rules)))
+returns c = rising_by (λ file. file.0) c.args.files.now c.is_sorted_by.result (c.is_sorted_by.ensures.cases (λ x y. is_lt (slice_cmp nat_cmp x.0 y.0)) (answers_always _ _ _ (λ f a r g called. search rules)))

@@ -1,6 +1,6 @@
 use Rattle.std.proofs.Common.{List, ℕ, Some, length, ap, ◌∙◌}
 use Rattle.std.specs.Option.{option_map}
-use Rattle.pt_host_cases.proofs.Present.{found_file}
+use Rattle.pt_host.proofs.Lookups.{found_file}
 use Rattle.pt_host_cases.proofs.stage.length_in.Goals as goal
 
 pub returns-in_err-bytes : goal.returns-in_err-bytes

@@ -1,6 +1,6 @@
 use Rattle.std.proofs.Common.{inr}
 use Rattle.pt_host.proofs.Replacement.{then_but, idle_but, unlink_but, sync_names_but}
-use Rattle.pt_store.specs.Left.{shadow_name}
+use Rattle.pt_left.specs.Left.{shadow_name}
 use Rattle.pt_store.proofs.disk.clear_shadow.Goals as goal
 
 pub returns-in_err-unlink-clause-quiet : goal.returns-in_err-unlink-clause-quiet

@@ -2,7 +2,7 @@ use Rattle.std.proofs.Common.{rules}
 use Rattle.std.specs.Cmp.Lexicographic.{slice_cmp}
 use Rattle.std.specs.Ordering.{nat_cmp, is_lt}
 use Rattle.std.proofs.lemmas.List.Sorted.{answers_always}
-use Rattle.pt_host.proofs.Rising.{rising_by}
+use Rattle.pt_plain.proofs.Neighbours.{rising_by}
 use Rattle.pt_store.proofs.parse.are_rising.Goals as goal
 
 pub returns : goal.returns

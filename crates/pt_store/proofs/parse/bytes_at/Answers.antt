@@ -1,4 +1,4 @@
-use Rattle.pt_store.proofs.Fields.{bytes_none, bytes_short, bytes_taken}
+use Rattle.pt_left.proofs.Fields.{bytes_none, bytes_short, bytes_taken}
 use Rattle.pt_store.proofs.parse.bytes_at.Goals as goal
 
 pub returns-in_err-length : goal.returns-in_err-length

@@ -1,4 +1,4 @@
-use Rattle.pt_store.proofs.Fields.{file_none, file_bad, file_unnamed, file_taken}
+use Rattle.pt_left.proofs.Fields.{file_none, file_bad, file_unnamed, file_taken}
 use Rattle.pt_store.proofs.parse.file_at.Goals as goal
 
 pub returns-in_err-name : goal.returns-in_err-name

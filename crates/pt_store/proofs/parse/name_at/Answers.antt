@@ -1,4 +1,4 @@
-use Rattle.pt_store.proofs.Fields.{name_none, name_short, name_taken}
+use Rattle.pt_left.proofs.Fields.{name_none, name_short, name_taken}
 use Rattle.pt_store.proofs.parse.name_at.Goals as goal
 
 pub returns-in_err-length : goal.returns-in_err-length

@@ -1,4 +1,4 @@
-use Rattle.pt_store.proofs.Fields.{number_short, number_taken}
+use Rattle.pt_left.proofs.Fields.{number_short, number_taken}
 use Rattle.pt_store.proofs.parse.number_at.Goals as goal
 
 pub returns-in_err-front : goal.returns-in_err-front

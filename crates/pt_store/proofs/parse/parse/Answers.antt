@@ -1,5 +1,5 @@
 use Rattle.std.proofs.Common.{◌≡◌, true, false, sym, ◌∙◌}
-use Rattle.pt_store.proofs.Once.{parse_rising, parse_falling}
+use Rattle.pt_store.proofs.Parsed.{parse_rising, parse_falling}
 use Rattle.pt_store.proofs.parse.parse.Goals as goal
 
 pub returns-then-not-are_rising : goal.returns-then-not-are_rising

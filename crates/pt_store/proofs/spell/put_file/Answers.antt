@@ -1,5 +1,5 @@
 use Rattle.std.proofs.Common.{◌≡◌, ◌++◌, subst, List, ℕ}
-use Rattle.pt_store.specs.Spelling.{number, spelled_file}
+use Rattle.pt_left.specs.Spelling.{number, spelled_file}
 use Rattle.pt_store.proofs.Writing.{file_written}
 use Rattle.pt_store.proofs.spell.put_file.Goals as goal
 

@@ -1,6 +1,6 @@
 use Rattle.std.proofs.Common.{◌≡◌, List, ℕ, length, refl, ap, arith}
 use Rattle.std.proofs.lemmas.List.{take_more}
-use Rattle.pt_store.specs.Spelling.{number}
+use Rattle.pt_left.specs.Spelling.{number}
 use Rattle.pt_store.proofs.Writing.{writing_starts, content_written, writes_file, writing_through, writing_ends}
 use Rattle.pt_store.proofs.spell.spell.Goals as goal
 

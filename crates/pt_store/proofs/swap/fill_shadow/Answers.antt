@@ -1,6 +1,6 @@
 use Rattle.std.proofs.Common.{inr, arith}
 use Rattle.pt_host.proofs.Replacement.{then_but, idle_but, create_but, failed_write_but, write_but, sync_but, filled, draft_after_create}
-use Rattle.pt_store.specs.Left.{shadow_name}
+use Rattle.pt_left.specs.Left.{shadow_name}
 use Rattle.pt_store.proofs.swap.fill_shadow.Goals as goal
 
 pub returns-in_err-create-clause-quiet : goal.returns-in_err-create-clause-quiet

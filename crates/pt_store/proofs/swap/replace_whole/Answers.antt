@@ -2,8 +2,8 @@ use Rattle.std.proofs.Common.{inr}
 use Rattle.pt_host.proofs.Replacement.{then_but, but_either, either_then, rename_either, swapped_after}
 use Rattle.pt_host.proofs.Runs.{idle_then}
 use Rattle.pt_host.proofs.Operations.{sync_names_then}
-use Rattle.pt_store.specs.Left.{whole_name, shadow_name}
-use Rattle.pt_store.proofs.Steps.{apart, apart_back}
+use Rattle.pt_left.specs.Left.{whole_name, shadow_name}
+use Rattle.pt_left.proofs.Directories.{apart, apart_back}
 use Rattle.pt_store.proofs.swap.replace_whole.Goals as goal
 
 pub returns-in_err-clear_shadow-clause-quiet : goal.returns-in_err-clear_shadow-clause-quiet

@@ -3,7 +3,7 @@ use Rattle.std.proofs.lemmas.Grind.{common_steps}
 use Rattle.pt_table_files.specs.Canonical.{map_of}
 use Rattle.pt_table_files.specs.FileNames.{counter_name}
 use Rattle.pt_table_files.proofs.CanonicalMap.{canonical_holds, counter_in_map}
-use Rattle.pt_table_files.proofs.Lookups.{contains_present}
+use Rattle.pt_host.proofs.Lookups.{contains_present}
 use Rattle.pt_table_files.proofs.canonical.files_of.Goals as goal
 
 pub returns-clause-holds : goal.returns-clause-holds

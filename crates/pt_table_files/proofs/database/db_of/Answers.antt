@@ -5,7 +5,7 @@ use Rattle.std.specs.Cmp.Lexicographic.{slice_cmp}
 use Rattle.std.specs.List.Sorted.{IsStrictlySortedBy}
 use Rattle.std.proofs.lemmas.Bool.{true≢false}
 use Rattle.pt_host.specs.Disk.{Files}
-use Rattle.pt_host.specs.Listed.{by_name}
+use Rattle.pt_host.specs.Listed.{FileList, by_name}
 use Rattle.pt_flat.specs.declared.data.Table.{Table}
 use Rattle.pt_table_files.specs.Counter.{SpellsCounter}
 use Rattle.pt_table_files.specs.FileNames.{counter_name}
@@ -15,13 +15,13 @@ use Rattle.pt_table_files.proofs.database.db_of.Goals as goal
 
 pub returns-in_default-clause-none : goal.returns-in_default-clause-none
 returns-in_default-clause-none c = λ db holds.
-    let none = subst (λ (files : List (List ℕ × List ℕ)). (next : ℕ) → SpellsCounter (unwrap_or (by_name files counter_name) []) next → ⊥) c.items-files.ensures c.in_default.ensures.none in
+    let none = subst (λ (files : FileList). (next : ℕ) → SpellsCounter (unwrap_or (by_name files counter_name) []) next → ⊥) c.items-files.ensures c.in_default.ensures.none in
     none db.next holds.counter
 
 pub returns-in_default-2-clause-none : goal.returns-in_default-2-clause-none
 returns-in_default-2-clause-none c = λ db holds.
     let here = rw c.in_default-2.is at c.in_ok-tables.ensures.none in
-    let none = subst (λ (files : List (List ℕ × List ℕ)). (tables : List Table) → HasTables (by_name files) tables → ⊥) c.items-files.ensures here in
+    let none = subst (λ (files : FileList). (tables : List Table) → HasTables (by_name files) tables → ⊥) c.items-files.ensures here in
     none db.tables holds.tables
 
 pub returns-then-not-branch-clause-none : goal.returns-then-not-branch-clause-none

@@ -1,6 +1,6 @@
 use Rattle.std.proofs.Common.{List, ℕ, ap, ◌∙◌}
 use Rattle.std.specs.Option.{option_map}
-use Rattle.pt_table_files.proofs.Lookups.{found_file}
+use Rattle.pt_host.proofs.Lookups.{found_file}
 use Rattle.pt_table_files.proofs.lookup.file_at.Goals as goal
 
 pub returns-in_err-bytes : goal.returns-in_err-bytes

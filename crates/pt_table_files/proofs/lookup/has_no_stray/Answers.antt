@@ -2,7 +2,7 @@ use Rattle.std.proofs.Common.{◌≡◌, true, false, sym, ◌∙◌, refl, rule
 use Rattle.std.specs.Prelude.{IsSome}
 use Rattle.pt_host.specs.Listed.{by_name}
 use Rattle.pt_table_files.specs.Holds.{IsNoStray}
-use Rattle.pt_table_files.proofs.Lookups.{all_present, present_at}
+use Rattle.pt_host.proofs.Lookups.{all_present, present_at}
 use Rattle.pt_table_files.proofs.lookup.has_no_stray.Goals as goal
 
 pub returns-then-not-is_no_stray : goal.returns-then-not-is_no_stray

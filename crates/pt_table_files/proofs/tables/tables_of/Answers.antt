@@ -9,7 +9,7 @@ use Rattle.pt_flat.specs.Word.{IsWord}
 use Rattle.pt_table_files.specs.FileNames.{definition_name}
 use Rattle.pt_table_files.specs.Holds.{HasTable}
 use Rattle.pt_table_files.proofs.NameTexts.{definition_name_one}
-use Rattle.pt_table_files.proofs.Lookups.{by_name_at, present_at}
+use Rattle.pt_host.proofs.Lookups.{by_name_at, present_at}
 use Rattle.pt_table_files.proofs.Collected.{by_bytes, IsTableAt, each_more, some_more, some_here, file_more, named_table, names_are_keys, collected}
 use Rattle.pt_table_files.proofs.tables.tables_of.Goals as goal
 use Rattle.pt_table_files.proofs.tables.tables_of.Goals.{in-Some+in_ok-table+in-Some-2+in_ok-add_table, in_default}

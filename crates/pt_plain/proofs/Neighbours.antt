@@ -1,25 +1,15 @@
--- Files listed in rising order of their names.
+-- The test of each two neighbours of a list is the test that it rises by a key.
 use Rattle.std.proofs.Common.{◌≡◌, ℕ, ◌+◌, ◌<◌, Bool, true, false, List, [], ◌∷◌, length, get_or, map, refl, sym, ap, ap₂, ◌∙◌, subst, arith, IsTrue, Ordering, Less}
-use Rattle.std.specs.List.{IsAllAdjacentAnswer, AllByRecursion}
+use Rattle.std.specs.List.{IsAllAdjacentAnswer}
 use Rattle.std.specs.Cmp.Lexicographic.{slice_cmp, nat_list_cmp_total}
 use Rattle.std.specs.Ordering.{nat_cmp, is_lt}
 use Rattle.std.specs.List.Sorted.{IsStrictlySortedBy}
 use Rattle.std.proofs.lemmas.List.{length-map, get_or-map}
 use Rattle.std.proofs.lemmas.Map.Keys.{Less-from_sorted, sorted_from_all_adjacent}
-use Rattle.pt_host.specs.Listed.{AreRising}
 
 less_from_is_lt : (o : Ordering) → true ≡ is_lt o → o ≡ Less
 less_from_is_lt o e = grind arith
 
-pub sorted_nil : {K : Type 0} (cmp : K → K → Ordering) → IsStrictlySortedBy cmp []
-unfolding IsStrictlySortedBy
-sorted_nil cmp = tt
-
-pub sorted_cons : {K : Type 0} (cmp : K → K → Ordering) (x : K) (xs : List K) → AllByRecursion (λ y. cmp x y ≡ Less) xs → IsStrictlySortedBy cmp xs → IsStrictlySortedBy cmp (x ∷ xs)
-unfolding IsStrictlySortedBy
-sorted_cons cmp x xs first rest = (first, rest)
-
--- Elements by a key: the test of each two neighbours is the test of all.
 module _ {X : Type 0} (key : X → List ℕ) where
   element : (xs : List X) → 0 < length xs → X
   element [] some = absurd (omega arith)
@@ -47,7 +37,3 @@ module _ {X : Type 0} (key : X → List ℕ) where
         ∙ Less-from_sorted (slice_cmp nat_cmp) (map key xs) some.0 (some.0 + 1) [] rising (omega arith) (subst (λ n. some.0 + 1 < n) (sym (length-map xs key)) some.1)) in
         some.2 d ∙ ap is_lt less,
   )
-
-pub rising_answer : (files : List (List ℕ × List ℕ)) (r : Bool) → IsAllAdjacentAnswer (λ x y b. b ≡ is_lt (slice_cmp nat_cmp x.0 y.0)) files r
-    → (IsTrue r → AreRising files) × (AreRising files → IsTrue r)
-rising_answer = rising_by (λ (file : List ℕ × List ℕ). file.0)

@@ -3,17 +3,17 @@ use Rattle.std.proofs.Common.{ℕ, Bool, true, false, cond, List, [], ◌∷◌,
 use Rattle.std.specs.Prelude.{IsSome}
 use Rattle.std.specs.Str.{bytes_eq}
 use Rattle.std.proofs.lemmas.List.Elements.{All-nil}
-use Rattle.pt_host.specs.Listed.{by_name}
-use Rattle.pt_store.specs.Left.{serials_name, with_serials, StandsFor}
+use Rattle.pt_host.specs.Listed.{FileList, by_name}
+use Rattle.pt_left.specs.Left.{serials_name, with_serials, StandsFor}
 use Rattle.pt_table_files.specs.Numbers.{le64}
 use Rattle.pt_table_files.specs.FileNames.{definition_name}
-use Rattle.pt_table_files.specs.Holds.{HasTable, HoldsBy}
+use Rattle.pt_table_files.specs.Holds.{HasTable, Holds}
 use Rattle.pt_table_files.proofs.SoundTables.{holds_nothing}
 use Rattle.pt_table_files.proofs.CanonicalMap.{canonical_holds}
-use Rattle.pt_engine.specs.Kept.{HoldsIn, empty_db}
+use Rattle.pt_table_files.specs.Directory.{HoldsIn, empty_db}
 
 -- the map with the counter alone, with these bytes
-abbrev counter_alone : List ℕ → List (List ℕ × List ℕ)
+abbrev counter_alone : List ℕ → FileList
 counter_alone bytes = (serials_name, bytes) ∷ []
 
 -- which files are there doesn't tell what they hold
@@ -28,7 +28,7 @@ stands_for_counter : StandsFor None (counter_alone [])
 unfolding with_serials
 stands_for_counter = record { spelled = []; is = refl; complete = refl }
 
-counter_holds : HoldsBy (by_name (counter_alone [])) empty_db
+counter_holds : Holds (by_name (counter_alone [])) empty_db
 counter_holds =
     let full = canonical_holds empty_db holds_nothing.sound in
     record {

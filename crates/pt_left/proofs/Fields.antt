@@ -6,7 +6,7 @@ use Rattle.std.proofs.lemmas.Bool.{cases_lt}
 use Rattle.std.proofs.lemmas.List.{take_at, drop_at, take-append-drop, get_or-take, get_or_past}
 use Rattle.std.proofs.lemmas.Nat.{le_bytes_8, from_le_bytes-to_le_bytes_8}
 use Rattle.pt_host.specs.Name.{IsName}
-use Rattle.pt_store.specs.Spelling.{number, spelled_name, spelled_bytes, spelled_file, IsFile}
+use Rattle.pt_left.specs.Spelling.{number, spelled_name, spelled_bytes, spelled_file, IsFile}
 
 -- two lists of one length, with others after them
 pub same_parts : (a b rest more : List ℕ) → length a ≡ length b → a ++ rest ≡ b ++ more → (a ≡ b) × (rest ≡ more)

@@ -7,7 +7,7 @@ use Rattle.std.specs.Prelude.{◌≡◌, ℕ, ◌<◌, ◌^◌, List, ◌∷◌,
 use Rattle.std.specs.List.{flat_map}
 use Rattle.std.specs.Int.{w64, to_le_bytes}
 use Rattle.pt_host.specs.Name.{IsName}
-use Rattle.pt_host.specs.Listed.{AreRising}
+use Rattle.pt_host.specs.Listed.{FileList, AreRising}
 
 unfoldable pub number : ℕ → List ℕ
 number n = to_le_bytes w64 n
@@ -21,7 +21,7 @@ spelled_bytes bytes = number (length bytes) ++ bytes
 unfoldable pub spelled_file : List ℕ × List ℕ → List ℕ
 spelled_file file = spelled_name file.0 ++ spelled_bytes file.1
 
-unfoldable pub spelling : List (List ℕ × List ℕ) → List ℕ
+unfoldable pub spelling : FileList → List ℕ
 spelling files = number (length files) ++ flat_map spelled_file files
 
 -- a file that has a spelling
@@ -30,18 +30,18 @@ pub record IsFile (file : List ℕ × List ℕ) : Type 0 where
   pub fits : length file.1 < 2 ^ 64
 
 -- Files in rising byte order of their names, each name once.
-pub record IsMap (files : List (List ℕ × List ℕ)) : Type 0 where
+pub record IsMap (files : FileList) : Type 0 where
   pub each : All IsFile files
   pub rising : AreRising files
 
 -- These bytes, all of them, spell these files, in any order.
-pub record SpellsFiles (bytes : List ℕ) (files : List (List ℕ × List ℕ)) : Type 0 where
+pub record SpellsFiles (bytes : List ℕ) (files : FileList) : Type 0 where
   pub each : All IsFile files
   pub few : length files < 2 ^ 64
   pub spelled : bytes ≡ spelling files
 
 -- These bytes, all of them, spell this map.
-pub record Spells (bytes : List ℕ) (files : List (List ℕ × List ℕ)) : Type 0 where
+pub record Spells (bytes : List ℕ) (files : FileList) : Type 0 where
   pub map : IsMap files
   pub few : length files < 2 ^ 64
   pub spelled : bytes ≡ spelling files

@@ -1,5 +1,5 @@
-use Rattle.pt_store.proofs.Once.{left_once, left_map, left_has}
-use Rattle.pt_store.proofs.law.stands_for_one_map.Goals as goal
+use Rattle.pt_left.proofs.Once.{left_once, left_map, left_has}
+use Rattle.pt_left.proofs.law.stands_for_one_map.Goals as goal
 
 pub returns-clause-once : goal.returns-clause-once
 returns-clause-once c = left_once

@@ -10,7 +10,7 @@ use Rattle.std.specs.BTreeMap.{insert_entry}
 use Rattle.std.proofs.lemmas.List.Elements.{All-from_recursion, recursion_from_All, All-contains}
 use Rattle.std.proofs.lemmas.Map.Keys.{sorted_head, sorted_tail}
 use Rattle.std.proofs.lemmas.Map.Views.{All-keys-insert_entry, All-map-remove_entry}
-use Rattle.pt_flat.proofs.Rising.{sorted_cons, sorted_nil}
+use Rattle.pt_plain.proofs.Rising.{sorted_cons, sorted_nil}
 
 module _ {K : Type 0} {cmp : K → K → Ordering} (order : IsTotalOrder cmp) where
   flip : (a b : K) → cmp a b ≡ Greater → cmp b a ≡ Less
