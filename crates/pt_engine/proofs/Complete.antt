@@ -10,7 +10,7 @@ use Rattle.pt_flat.specs.declared.data.Stmt.TheVariants.{Create, Insert, Select}
 use Rattle.pt_engine.specs.declared.symbols.Sign.{Sign}
 use Rattle.pt_engine.specs.declared.symbols.Sign.TheVariants.{Open, Close, Minus, Star}
 use Rattle.pt_engine.specs.Symbols.{Symbol, Fixed, Run, IsLexed, is_white}
-use Rattle.pt_engine.specs.Reading.{IsKeyword, IsName, IsNumber, IsValue, positive, negative, IsStatement, create as creates, insert as inserts, select as selects, Spells, IsBlank, Reads}
+use Rattle.pt_engine.specs.Reading.{IsKeyword, IsFreeWord, IsNumber, IsValue, positive, negative, IsStatement, create as creates, insert as inserts, select as selects, Spells, IsBlank, Reads}
 use Rattle.pt_engine.specs.Reader.{◌>>=◌, next, run, as_run, sign, as_sign, same_sign, keyword, as_keyword, name, name_of, number, number_of, value, value_by, create, insert, select, statement, statement_by, reading}
 use Rattle.pt_engine.proofs.Tests.{name_of-is, number_of-is}
 use Rattle.pt_engine.proofs.Lexing.{next-is, blank-lexed}
@@ -42,7 +42,7 @@ keyword-is wanted word {bytes} is d = let n = run-is d in (n.0, step (run bytes)
 
 -- ---- names and values
 
-name-is : {bytes word : List ℕ} {symbols : List Symbol} → IsName word → IsLexed bytes (Run word ∷ symbols) → (rest : List ℕ) × (name bytes ≡ Some (word, rest)) × IsLexed rest symbols
+name-is : {bytes word : List ℕ} {symbols : List Symbol} → IsFreeWord word → IsLexed bytes (Run word ∷ symbols) → (rest : List ℕ) × (name bytes ≡ Some (word, rest)) × IsLexed rest symbols
 unfolding name
 name-is {bytes} {word} is d = let n = run-is d in (n.0, step (run bytes) _ n.1 (step (name_of word) _ (sym (name_of-is word is)) refl), n.2)
 
@@ -62,7 +62,7 @@ value-is {bytes} (negative {run = word} {n} is) d = let s = next-is d in let r =
 abbrev IsRead : (List ℕ → Option (Stmt × List ℕ)) → List ℕ → Stmt → Type 0
 IsRead reader bytes stmt = (rest : List ℕ) × (reader bytes ≡ Some (stmt, rest)) × IsLexed rest []
 
-create-is : {bytes t name column i : List ℕ} → IsKeyword (codes "TABLE") t → IsName name → IsName column → IsKeyword (codes "INT") i
+create-is : {bytes t name column i : List ℕ} → IsKeyword (codes "TABLE") t → IsFreeWord name → IsFreeWord column → IsKeyword (codes "INT") i
     → IsLexed bytes (Run t ∷ Run name ∷ Fixed Open ∷ Run column ∷ Run i ∷ Fixed Close ∷ []) → IsRead create bytes (Create name column)
 unfolding create
 create-is {bytes} table named columned int d =
@@ -74,7 +74,7 @@ create-is {bytes} table named columned int d =
     let s6 = sign-is s5.2 in
     (s6.0, step (keyword (codes "TABLE") bytes) _ s1.1 (step (name s1.0) _ s2.1 (step (sign Open s2.0) _ s3.1 (step (name s3.0) _ s4.1 (step (keyword (codes "INT") s4.0) _ s5.1 (step (sign Close s5.0) _ s6.1 refl))))), s6.2)
 
-insert-is : {bytes t name v : List ℕ} {symbols : List Symbol} {z : ℤ} → IsKeyword (codes "INTO") t → IsName name → IsKeyword (codes "VALUES") v → IsValue symbols z (Fixed Close ∷ [])
+insert-is : {bytes t name v : List ℕ} {symbols : List Symbol} {z : ℤ} → IsKeyword (codes "INTO") t → IsFreeWord name → IsKeyword (codes "VALUES") v → IsValue symbols z (Fixed Close ∷ [])
     → IsLexed bytes (Run t ∷ Run name ∷ Run v ∷ Fixed Open ∷ symbols) → IsRead insert bytes (Insert name z)
 unfolding insert
 insert-is {bytes} into named values given d =
@@ -86,7 +86,7 @@ insert-is {bytes} into named values given d =
     let s6 = sign-is s5.2 in
     (s6.0, step (keyword (codes "INTO") bytes) _ s1.1 (step (name s1.0) _ s2.1 (step (keyword (codes "VALUES") s2.0) _ s3.1 (step (sign Open s3.0) _ s4.1 (step (value s4.0) _ s5.1 (step (sign Close s5.0) _ s6.1 refl))))), s6.2)
 
-select-is : {bytes f name : List ℕ} → IsKeyword (codes "FROM") f → IsName name → IsLexed bytes (Fixed Star ∷ Run f ∷ Run name ∷ []) → IsRead select bytes (Select name)
+select-is : {bytes f name : List ℕ} → IsKeyword (codes "FROM") f → IsFreeWord name → IsLexed bytes (Fixed Star ∷ Run f ∷ Run name ∷ []) → IsRead select bytes (Select name)
 unfolding select
 select-is {bytes} from named d =
     let s1 = sign-is d in

@@ -8,7 +8,7 @@ use Rattle.pt_flat.specs.declared.data.Stmt.TheVariants.{Create, Insert, Select}
 use Rattle.pt_engine.specs.declared.symbols.Sign.{Sign}
 use Rattle.pt_engine.specs.declared.symbols.Sign.TheVariants.{Open, Close, Minus, Star}
 use Rattle.pt_engine.specs.Symbols.{Symbol, Fixed, Run, IsLexed, is_white}
-use Rattle.pt_engine.specs.Reading.{IsKeyword, IsName, IsNumber, IsValue, positive, negative, IsStatement, create as creates, insert as inserts, select as selects, Spells}
+use Rattle.pt_engine.specs.Reading.{IsKeyword, IsFreeWord, IsNumber, IsValue, positive, negative, IsStatement, create as creates, insert as inserts, select as selects, Spells}
 use Rattle.pt_engine.specs.Reader.{◌>>=◌, next, run, as_run, sign, as_sign, same_sign, keyword, as_keyword, name, is_name, number, number_of, is_number, value, value_by, create, insert, select, statement, statement_by, reading}
 use Rattle.pt_engine.proofs.Tests.{Decides-is_name, Decides-is_number}
 use Rattle.pt_engine.proofs.Lexing.{IsFront, next-front, lexed-blank}
@@ -62,7 +62,7 @@ keyword-sound wanted {bytes} e = at_some (IsWanted wanted bytes) e (bound _ (run
 -- ---- names and values
 
 abbrev IsNamed : List ℕ → List ℕ × List ℕ → Type 0
-IsNamed bytes p = IsName p.0 × IsFront bytes (Run p.0) p.1
+IsNamed bytes p = IsFreeWord p.0 × IsFront bytes (Run p.0) p.1
 
 name-sound : {bytes : List ℕ} {p : List ℕ × List ℕ} → name bytes ≡ Some p → IsNamed bytes p
 unfolding name

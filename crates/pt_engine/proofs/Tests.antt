@@ -7,7 +7,7 @@ use Rattle.std.proofs.lemmas.Bool.Decides.{Decides-and, Decides-like, Decides-lt
 use Rattle.std.proofs.lemmas.Bool.{leb-true, le-leb}
 use Rattle.std.proofs.lemmas.List.Sums.{AllPass-from_list_all, list_all-from_AllPass}
 use Rattle.pt_flat.specs.Word.{IsWord, is_word_byte}
-use Rattle.pt_engine.specs.Reading.{IsName, IsNumber, is_reserved}
+use Rattle.pt_engine.specs.Reading.{IsFreeWord, IsNumber, is_reserved}
 use Rattle.pt_engine.specs.Reader.{is_name, is_number, name_of, number_of}
 
 Decides-leb : (a b : ℕ) → Decides (nat_le a b) (a ≤ b)
@@ -20,7 +20,7 @@ Decides-not_true false = (λ e. refl, λ e. refl)
 Decides-list_all : (p : ℕ → Bool) (xs : List ℕ) → Decides (list_all p xs) (All (λ x. p x ≡ true) xs)
 Decides-list_all p xs = (AllPass-from_list_all p xs, list_all-from_AllPass p xs)
 
-pub Decides-is_name : (run : List ℕ) → Decides (is_name run) (IsName run)
+pub Decides-is_name : (run : List ℕ) → Decides (is_name run) (IsFreeWord run)
 unfolding is_name
 Decides-is_name run = Decides-like _
     (λ h. record { word = record { some = h.0.0.0.0; fits = h.0.0.0.1; each = h.0.0.1 }; begins = h.0.1; free = h.1 })
@@ -46,10 +46,10 @@ left_out : {A : Type 0} {P : Type 0} (r : Bool) (x : A) → Decides r P → ¬ P
 left_out true x d is = absurd (is (d.0 refl))
 left_out false x d is = refl
 
-pub name_of-is : (run : List ℕ) → IsName run → Some run ≡ name_of run
+pub name_of-is : (run : List ℕ) → IsFreeWord run → Some run ≡ name_of run
 name_of-is run is = chosen (is_name run) run (Decides-is_name run) is
 
-name_of-not : (run : List ℕ) → ¬ IsName run → None ≡ name_of run
+name_of-not : (run : List ℕ) → ¬ IsFreeWord run → None ≡ name_of run
 name_of-not run is = left_out (is_name run) run (Decides-is_name run) is
 
 pub name_of-digit : (run : List ℕ) → true ≡ is_ascii_digit (slice_index run 0) → None ≡ name_of run

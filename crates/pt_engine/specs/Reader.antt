@@ -79,7 +79,7 @@ keyword wanted bytes = run bytes >>= as_keyword wanted
 
 -- ---- names and values
 
--- `IsName` and `IsNumber` as tests
+-- `IsFreeWord` and `IsNumber` as tests
 unfoldable pub is_name : List ℕ → Bool
 is_name word = nat_lt 0 (length word) && nat_le (length word) 64 && list_all is_word_byte word && not (is_ascii_digit (slice_index word 0)) && not (is_reserved word)
 

@@ -33,8 +33,8 @@ IsKeyword keyword run = IsTrue (str_eq_ignore_ascii_case run keyword)
 unfoldable pub is_reserved : List ℕ → Bool
 is_reserved run = list_any (str_eq_ignore_ascii_case run) reserved
 
--- the name of a table or a column
-pub record IsName (run : List ℕ) : Type 0 where
+-- a word that may name a table or a column: no digit first, and not reserved
+pub record IsFreeWord (run : List ℕ) : Type 0 where
   pub word : IsWord run
   pub begins : is_ascii_digit (slice_index run 0) ≡ false
   pub free : is_reserved run ≡ false
@@ -52,11 +52,11 @@ pub data IsValue : List Symbol → ℤ → List Symbol → Type 0 where
 
 -- The symbols are a statement. A rule names the run that stands for a keyword by its first letter.
 pub data IsStatement : List Symbol → Stmt → Type 0 where
-  create : {c t name column i : List ℕ} → IsKeyword (codes "CREATE") c → IsKeyword (codes "TABLE") t → IsName name → IsName column → IsKeyword (codes "INT") i
+  create : {c t name column i : List ℕ} → IsKeyword (codes "CREATE") c → IsKeyword (codes "TABLE") t → IsFreeWord name → IsFreeWord column → IsKeyword (codes "INT") i
       → IsStatement (Run c ∷ Run t ∷ Run name ∷ Fixed Open ∷ Run column ∷ Run i ∷ Fixed Close ∷ []) (Create name column)
-  insert : {i t name v : List ℕ} {symbols : List Symbol} {value : ℤ} → IsKeyword (codes "INSERT") i → IsKeyword (codes "INTO") t → IsName name → IsKeyword (codes "VALUES") v → IsValue symbols value (Fixed Close ∷ [])
+  insert : {i t name v : List ℕ} {symbols : List Symbol} {value : ℤ} → IsKeyword (codes "INSERT") i → IsKeyword (codes "INTO") t → IsFreeWord name → IsKeyword (codes "VALUES") v → IsValue symbols value (Fixed Close ∷ [])
       → IsStatement (Run i ∷ Run t ∷ Run name ∷ Run v ∷ Fixed Open ∷ symbols) (Insert name value)
-  select : {s f name : List ℕ} → IsKeyword (codes "SELECT") s → IsKeyword (codes "FROM") f → IsName name
+  select : {s f name : List ℕ} → IsKeyword (codes "SELECT") s → IsKeyword (codes "FROM") f → IsFreeWord name
       → IsStatement (Run s ∷ Fixed Star ∷ Run f ∷ Run name ∷ []) (Select name)
 
 -- the piece's symbols are the statement

@@ -5,7 +5,7 @@ ghost use Rattle.pt_host.specs.Listed.{FileList, AreRising, by_name};
 ghost use Rattle.pt_host.specs.World.{OnlyLooks};
 ghost use Rattle.pt_engine.specs.Causes.{HasCauses};
 ghost use Rattle.pt_left.specs.Left.{IsWhole, whole_name};
-ghost use Rattle.pt_store.specs.Store.{is_live, IsStore, IsStanding, sizes};
+ghost use Rattle.pt_store.specs.Store.{is_live, IsStore, HasMap, sizes};
 ghost use Rattle.pt_store.specs.Stops.{IsCounted, IfBad};
 ghost use Rattle.pt_store.specs.Step.{OnlyClears};
 ghost use Rattle.pt_flat.specs.declared.data.Db.{Db};
@@ -51,7 +51,7 @@ impl Session {
     /// Keeps the database in the directory, in the place of the one that it held.
     pub(crate) fn keep<H: Host>(&mut self, alloc: Global, host: &mut H) -> Result<(), Ending>
         requires open { IsOpen self.old }
-        requires stands { H.tells → IsStanding self.old.store (H.world host.old) }
+        requires stands { H.tells → HasMap self.old.store (H.world host.old) }
         ensures open { OnOk result (IsOpen self.new) }
         ensures db { self.new.db ≡ self.old.db }
         ensures told { H.tells → (files : FileList) → IsStore self.old.store files (H.world host.old) → Keeps self.new files (H.world host.old) (H.world host.new) result }
@@ -70,7 +70,7 @@ impl Session {
 /// All files of the store's map.
 fn read_all<H: Host>(alloc: Global, store: &Store, host: &mut H) -> Result<FileList, Stop>
     requires live { IsTrue (is_live store.now) }
-    requires stands { H.tells → IsStanding store.now (H.world host.old) }
+    requires stands { H.tells → HasMap store.now (H.world host.old) }
     ensures read { IfOk result (λ all. H.tells → (files : FileList) → IsStore store.now files (H.world host.old) → all ≡ files) }
     ensures looks { H.tells → OnlyLooks (H.world host.old) (H.world host.new) }
     ensures bad { IfBad result (λ name place. IsWhole name place × (H.tells → ⊥)) }
@@ -88,7 +88,7 @@ fn read_all<H: Host>(alloc: Global, store: &Store, host: &mut H) -> Result<FileL
 fn read_file<H: Host>(store: &Store, host: &mut H, i: usize) -> Result<(Name, List<u8>), Stop>
     requires live { IsTrue (is_live store.now) }
     requires within { i < length (sizes store.now) }
-    requires stands { H.tells → IsStanding store.now (H.world host.old) }
+    requires stands { H.tells → HasMap store.now (H.world host.old) }
     ensures read { IfOk result (λ file. H.tells → (files : FileList) → IsStore store.now files (H.world host.old) → slice_get files i ≡ Some file) }
     ensures looks { H.tells → OnlyLooks (H.world host.old) (H.world host.new) }
     ensures bad { IfBad result (λ name place. IsWhole name place × (H.tells → ⊥)) }

@@ -4,7 +4,7 @@ ghost use Rattle.pt_host.specs.Disk.{IsAtRest};
 ghost use Rattle.pt_host.specs.Listed.{AreRising};
 ghost use Rattle.pt_memhost.specs.Memory.{world_in};
 ghost use Rattle.pt_left.specs.Left.{serials_name};
-ghost use Rattle.pt_store.specs.Store.{IsStanding, is_live};
+ghost use Rattle.pt_store.specs.Store.{HasMap, is_live};
 
 use crate::maps::{map_text, stop_text};
 use crate::replacing::has_serials;
@@ -81,7 +81,7 @@ fn replace_in(
 
 fn replaced(store: &mut Store, host: &mut MemHost, files: &FileList) -> &'static str
     requires live { IsTrue (is_live store.old) }
-    requires stands { IsStanding store.old (world_in host.old) }
+    requires stands { HasMap store.old (world_in host.old) }
     requires rising { AreRising files.now }
     requires serials { Contains (map (λ file. file.0) files.now) serials_name }
 {

@@ -2,7 +2,7 @@
 ghost use Rattle.std.specs.Prelude.{◌≡◌, OnOk, IsTrue, None};
 ghost use Rattle.pt_host.specs.Disk.{IsAtRest};
 ghost use Rattle.pt_memhost.specs.Memory.{world_in};
-ghost use Rattle.pt_store.specs.Store.{IsStanding, is_live};
+ghost use Rattle.pt_store.specs.Store.{HasMap, is_live};
 
 use crate::texts::{files_text, image_of, push_bytes, push_file};
 use pt_host::{Host, Image, Name};
@@ -42,7 +42,7 @@ fn map_in(alloc: Global, host: &mut MemHost) -> Result<String, Stop>
 /// The files of the map, as the store's calls tell them.
 pub(crate) fn read_all(alloc: Global, store: &Store, host: &mut MemHost) -> Result<String, Stop>
     requires live { IsTrue (is_live store.now) }
-    requires stands { IsStanding store.now (world_in host.old) }
+    requires stands { HasMap store.now (world_in host.old) }
 {
     let count = store.count();
     let mut text = format!(in alloc; "map {count}")?;
@@ -60,8 +60,8 @@ pub(crate) fn read_all(alloc: Global, store: &Store, host: &mut MemHost) -> Resu
 /// Adds the file of this name, of which as many bytes are read as the store says.
 fn push_read(text: &mut String, store: &Store, host: &mut MemHost, name: &Name) -> Result<(), Stop>
     requires live { IsTrue (is_live store.now) }
-    requires stands { IsStanding store.now (world_in host.old) }
-    ensures { OnOk result (IsStanding store.now (world_in host.new)) }
+    requires stands { HasMap store.now (world_in host.old) }
+    ensures { OnOk result (HasMap store.now (world_in host.new)) }
 {
     let Some(length) = store.length(name) else {
         text.push_str(" no length")?;

@@ -6,7 +6,7 @@ ghost use Rattle.pt_host.specs.Disk.{IsAtRest};
 ghost use Rattle.pt_host.specs.Listed.{AreRising};
 ghost use Rattle.pt_memhost.specs.Memory.{world_in};
 ghost use Rattle.pt_left.specs.Left.{serials_name};
-ghost use Rattle.pt_store.specs.Store.{IsStanding, is_live};
+ghost use Rattle.pt_store.specs.Store.{HasMap, is_live};
 
 use crate::maps::{left_text, read_all, stop_text};
 use crate::texts::image_of;
@@ -63,7 +63,7 @@ fn replace(
     files: &FileList,
 ) -> Result<String, Stop>
     requires live { IsTrue (is_live store.old) }
-    requires stands { IsStanding store.old (world_in host.old) }
+    requires stands { HasMap store.old (world_in host.old) }
     requires rising { AreRising files.now }
     requires serials { Contains (map (λ file. file.0) files.now) serials_name }
 {

@@ -9,7 +9,7 @@ use Rattle.pt_host.specs.Disk.{Fs, Files, EachImage, IsAtRest, shown}
 use Rattle.pt_host.specs.Listed.{FileList, AreRising}
 use Rattle.pt_host.proofs.Shown.{at_rest_images}
 use Rattle.pt_left.specs.Spelling.{SpellsFiles}
-use Rattle.pt_left.specs.Left.{whole_name, shadow_name, serials_name, placed, with_serials, StandsFor, Left, IsLeft}
+use Rattle.pt_left.specs.Left.{whole_name, shadow_name, serials_name, placed, with_serials, GivesMap, Left, IsLeft}
 
 pub apart : whole_name ≢ shadow_name
 apart e = omega (arith, ap (λ (b : List ℕ). length b) e)
@@ -19,7 +19,7 @@ apart_back e = apart (sym e)
 
 -- a directory is told by `whole.map` alone
 pub left_same : (map : FileList) (x y : Files) → y whole_name ≡ x whole_name → Left x map → Left y map
-left_same map x y same left = subst (λ whole. StandsFor whole map) (sym same) left
+left_same map x y same left = subst (λ whole. GivesMap whole map) (sym same) left
 
 -- at rest it is what is read
 pub at_rest_left : (fs : Fs) (map : FileList) → IsAtRest fs → Left (shown fs) map → EachImage fs (IsLeft map)
@@ -50,7 +50,7 @@ with_serials_same (f ∷ files) rising has =
         let less : slice_cmp nat_cmp f.0 (get_or (map (λ g. g.0) files) k serials_name) ≡ Less = head k serials_name (omega arith) in
         let bad : Greater ≡ Less = (sym at ∙ ap (slice_cmp nat_cmp f.0) (sym here) ∙ less) in cc
 
-pub spelled_stands : (bytes : List ℕ) (files : FileList) → SpellsFiles bytes files → AreRising files → Contains (map (λ f. f.0) files) serials_name → StandsFor (Some bytes) files
+pub spelled_stands : (bytes : List ℕ) (files : FileList) → SpellsFiles bytes files → AreRising files → Contains (map (λ f. f.0) files) serials_name → GivesMap (Some bytes) files
 spelled_stands bytes files s rising has = record {
   spelled = files;
   is = record { map = record { each = s.each; rising = rising }; few = s.few; spelled = s.spelled };

@@ -14,7 +14,7 @@ use Rattle.pt_plain.proofs.Rising.{sorted_cons, sorted_nil}
 use Rattle.pt_host.specs.Name.{is_name_byte}
 use Rattle.pt_host.specs.Listed.{FileList, AreRising}
 use Rattle.pt_left.specs.Spelling.{spelled_file, spelling, IsFile, IsMap, SpellsFiles, Spells}
-use Rattle.pt_left.specs.Left.{whole_name, with_serials, SpelledIn, StandsFor, Left, placed, serials_name}
+use Rattle.pt_left.specs.Left.{whole_name, with_serials, SpelledIn, GivesMap, Left, placed, serials_name}
 use Rattle.pt_left.proofs.Fields.{one_number, one_file}
 
 same_files : (a b : FileList) → length a ≡ length b → All IsFile a → All IsFile b → flat_map spelled_file a ≡ flat_map spelled_file b → a ≡ b
@@ -42,7 +42,7 @@ pub spelled_once : (whole : Option (List ℕ)) (a b : FileList) → SpelledIn wh
 spelled_once None a b s t = s ∙ sym t
 spelled_once (Some bytes) a b s t = map_once bytes a b s t
 
-pub stands_once : (whole : Option (List ℕ)) (a b : FileList) → StandsFor whole a → StandsFor whole b → a ≡ b
+pub stands_once : (whole : Option (List ℕ)) (a b : FileList) → GivesMap whole a → GivesMap whole b → a ≡ b
 stands_once whole a b s t = s.complete ∙ ap with_serials (spelled_once whole s.spelled t.spelled s.is t.is) ∙ sym t.complete
 
 pub left_once : (files : Files) (a b : FileList) → Left files a → Left files b → a ≡ b

@@ -37,15 +37,15 @@ abbrev pub SpelledIn : Option (List ℕ) → FileList → Type 0
 SpelledIn None map = map ≡ []
 SpelledIn (Some bytes) map = Spells bytes map
 
--- `whole.map`, missing or with these bytes, stands for this map.
-pub record StandsFor (whole : Option (List ℕ)) (map : FileList) : Type 0 where
+-- `whole.map`, missing or with these bytes, gives this map.
+pub record GivesMap (whole : Option (List ℕ)) (map : FileList) : Type 0 where
   pub spelled : FileList
   pub is : SpelledIn whole spelled
   pub complete : map ≡ with_serials spelled
 
 -- A directory stands for this map. All its other files mean nothing.
 abbrev pub Left : Files → FileList → Type 0
-Left files map = StandsFor (files whole_name) map
+Left files map = GivesMap (files whole_name) map
 
 -- the same, with the map first
 abbrev pub IsLeft : FileList → Files → Type 0

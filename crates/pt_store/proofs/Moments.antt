@@ -13,7 +13,7 @@ use Rattle.pt_host.proofs.Shown.{shown_has, at_rest_images}
 use Rattle.pt_store.specs.declared.entry.Entry.{Entry}
 use Rattle.pt_store.specs.declared.store.Store.{Store}
 use Rattle.pt_store.specs.Entries.{AreEntries, HasEntries, IsMeaningless, bytes_of}
-use Rattle.pt_left.specs.Left.{whole_name, shadow_name, with_serials, SpelledIn, StandsFor, Left, NoneLeft, IsLeft, IsEither, OnlyOwn, AsBeforeButOwn}
+use Rattle.pt_left.specs.Left.{whole_name, shadow_name, with_serials, SpelledIn, GivesMap, Left, NoneLeft, IsLeft, IsEither, OnlyOwn, AsBeforeButOwn}
 use Rattle.pt_left.proofs.Directories.{apart, left_same, at_rest_left}
 use Rattle.pt_store.specs.Store.{IsStore}
 use Rattle.pt_store.specs.declared.stop.Stop.{Stop}
@@ -75,17 +75,17 @@ looks_kept old new store files looks = store_kept old new store files looks.now.
 
 -- # A map is replaced
 
-module _ (old new : World) (bytes : List ℕ) (files : FileList) (stands : StandsFor (Some bytes) files) (either : IsQuiet old new (IsBeforeOrAfter old.now.fs whole_name shadow_name bytes)) where
+module _ (old new : World) (bytes : List ℕ) (files : FileList) (stands : GivesMap (Some bytes) files) (either : IsQuiet old new (IsBeforeOrAfter old.now.fs whole_name shadow_name bytes)) where
   pub either_left : (before : FileList) → EachImage old.now.fs (IsLeft before) → IsQuiet old new (IsEither before files)
   either_left before each =
       follows_each old new (Replaces whole_name shadow_name bytes) (IsLeft before) (IsEither before files) each
-      (λ x y left step. elim step.here [ inl same ↦ inl (left_same before x y same left) | inr put_in ↦ inr (subst (λ whole. StandsFor whole files) (sym put_in) stands) ])
+      (λ x y left step. elim step.here [ inl same ↦ inl (left_same before x y same left) | inr put_in ↦ inr (subst (λ whole. GivesMap whole files) (sym put_in) stands) ])
       either
 
   pub replaced : (alloc : Global) (entries : List Entry) → IsSound new.now.fs → IsSome old.dir → IsHeld new.now.fs whole_name bytes → new.now.fs.pending ≡ [] → AreEntries bytes entries files → IsStore (record { alloc = alloc; entries = entries; live = true }) files new
   replaced alloc entries sound entered held settled are = record {
     live = refl;
-    left = λ images image. subst (λ whole. StandsFor whole files) (sym (held_image new.now.fs whole_name bytes held images image)) stands;
+    left = λ images image. subst (λ whole. GivesMap whole files) (sym (held_image new.now.fs whole_name bytes held images image)) stands;
     entered = subst IsSome (sym either.dir) entered;
     settled = settled;
     here = subst (λ whole. AreEntries (bytes_of whole) entries files) (sym (held_shown new.now.fs whole_name bytes sound held)) are;

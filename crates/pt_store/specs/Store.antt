@@ -29,5 +29,5 @@ pub record IsStore (store : Store) (files : FileList) (w : World) : Type 0 where
   pub here : AreEntries (bytes_of (shown w.now.fs whole_name)) store.entries files
 
 -- it stands for some map
-abbrev pub IsStanding : Store → World → Type 0
-IsStanding store w = (files : FileList) × IsStore store files w
+abbrev pub HasMap : Store → World → Type 0
+HasMap store w = (files : FileList) × IsStore store files w

@@ -7,7 +7,7 @@ ghost use Rattle.pt_left.specs.Left.{serials_name, IsLeft, IsWhole, NoneLeft, As
 ghost use Rattle.pt_store.specs.Stops.{ByStop, IsCounted, IfBad};
 ghost use Rattle.pt_store.specs.Step.{HasSizes, IsLook, IsStep, OnlyClears};
 ghost use Rattle.pt_store.specs.Entries.{length_in};
-ghost use Rattle.pt_store.specs.Store.{IsStore, IsStanding, is_live, sizes};
+ghost use Rattle.pt_store.specs.Store.{IsStore, HasMap, is_live, sizes};
 
 use crate::Stop;
 use crate::disk::{clear_shadow, read_entries, read_range};
@@ -90,7 +90,7 @@ impl Store {
     pub fn read<H: Host>(&self, host: &mut H, name: &Name) -> Result<Vec<u8>, Stop>
         requires live { IsTrue (is_live self.now) }
         requires held { IsSome (length_in (sizes self.now) name.now) }
-        requires stands { H.tells → IsStanding self.now (H.world host.old) }
+        requires stands { H.tells → HasMap self.now (H.world host.old) }
         ensures bytes { IfOk result (λ v. H.tells → (files : FileList) → IsStore self.now files (H.world host.old) → by_name files name.now ≡ Some v.items) }
         // It touches no file, and the store stands for its map still.
         ensures told { H.tells → (files : FileList) → IsStore self.now files (H.world host.old) → IsLook self.now files (H.world host.old) (H.world host.new) }
@@ -111,7 +111,7 @@ impl Store {
         requires live { IsTrue (is_live self.old) }
         requires rising { AreRising files.now }
         requires serials { Contains (map (λ file. file.0) files.now) serials_name }
-        requires stands { H.tells → IsStanding self.old (H.world host.old) }
+        requires stands { H.tells → HasMap self.old (H.world host.old) }
         // At every moment, whatever is answered, the directory stands for the old map or the new one.
         ensures told { H.tells → (old : FileList) → IsStore self.old old (H.world host.old) → IsStep self.new old files.now (H.world host.old) (H.world host.new) result }
         // At every moment no other file than its own two has changed.

@@ -23,7 +23,7 @@ use Rattle.pt_flat.specs.Word.{IsWord}
 use Rattle.pt_flat.specs.Sound.{IsSound, IsSoundTable}
 use Rattle.pt_table_files.specs.Numbers.{le64}
 use Rattle.pt_table_files.specs.Definition.{definition}
-use Rattle.pt_table_files.specs.Records.{rows_text, SpellsRows}
+use Rattle.pt_table_files.specs.Records.{rows_as_puts, SpellsRows}
 use Rattle.pt_table_files.specs.Counter.{SpellsCounter}
 use Rattle.pt_table_files.specs.FileNames.{definition_name, rows_name, counter_name}
 use Rattle.pt_table_files.specs.Holds.{HasTable, HasNoStray, Holds, names}
@@ -88,7 +88,7 @@ record IsApart (query : List ℕ) (table : Table) : Type 0 where
 
 kept_one : (table : Table) (files : Map) (query : List ℕ) → IsApart query table → by_name (with_table table files) query ≡ by_name files query
 kept_one table files query apart =
-    other (rows_name table.name) (rows_text table.rows) (with_file (definition_name table.name) (definition table.column) files) query apart.rows
+    other (rows_name table.name) (rows_as_puts table.rows) (with_file (definition_name table.name) (definition table.column) files) query apart.rows
     ∙ other (definition_name table.name) (definition table.column) files query apart.definition
 
 kept : (tables : List Table) (files : Map) (query : List ℕ) → AllByRecursion (IsApart query) tables → by_name (with_tables tables files) query ≡ by_name files query
@@ -99,7 +99,7 @@ kept (table ∷ tables) files query apart = kept tables (with_table table files)
 record IsWritten (table : Table) : Type 0 where
   name : IsWord table.name
   column : IsWord table.column
-  spelled : SpellsRows (rows_text table.rows) table.rows
+  spelled : SpellsRows (rows_as_puts table.rows) table.rows
 
 module _ (table : Table) (tables : List Table) (files : Map) (rising : IsStrictlySortedBy (slice_cmp nat_cmp) (names (table ∷ tables))) where
   later : AllByRecursion (λ n. slice_cmp nat_cmp table.name n ≡ Less) (names tables)
@@ -118,14 +118,14 @@ module _ (table : Table) (tables : List Table) (files : Map) (rising : IsStrictl
   definition_kept =
       kept tables (with_table table files) (definition_name table.name)
       (apart_all (definition_name table.name) (λ n differ. ((λ e. differ (definition_name_one n table.name e)), λ e. definition_not_rows table.name n (sym e))) tables later)
-      ∙ other (rows_name table.name) (rows_text table.rows) (with_file (definition_name table.name) (definition table.column) files) (definition_name table.name) (λ e. definition_not_rows table.name table.name (sym e))
+      ∙ other (rows_name table.name) (rows_as_puts table.rows) (with_file (definition_name table.name) (definition table.column) files) (definition_name table.name) (λ e. definition_not_rows table.name table.name (sym e))
       ∙ here (definition_name table.name) (definition table.column) files
 
-  rows_kept : by_name (with_tables tables (with_table table files)) (rows_name table.name) ≡ Some (rows_text table.rows)
+  rows_kept : by_name (with_tables tables (with_table table files)) (rows_name table.name) ≡ Some (rows_as_puts table.rows)
   rows_kept =
       kept tables (with_table table files) (rows_name table.name)
       (apart_all (rows_name table.name) (λ n differ. ((λ e. definition_not_rows n table.name e), λ e. differ (rows_name_one n table.name e))) tables later)
-      ∙ here (rows_name table.name) (rows_text table.rows) (with_file (definition_name table.name) (definition table.column) files)
+      ∙ here (rows_name table.name) (rows_as_puts table.rows) (with_file (definition_name table.name) (definition table.column) files)
 
   table_kept : IsWritten table → HasTable (by_name (with_tables tables (with_table table files))) table
   table_kept w = record { name = w.name; column = w.column; defined = definition_kept; rows = rw rows_kept w.spelled }
@@ -152,7 +152,7 @@ names_of [] files query there = inr there
 names_of (table ∷ tables) files query there =
     elim (names_of tables (with_table table files) query there) [
       | inl of ↦ inl (of_later table tables query of)
-      | inr in_one ↦ elim (from (rows_name table.name) (rows_text table.rows) (with_file (definition_name table.name) (definition table.column) files) query in_one) [
+      | inr in_one ↦ elim (from (rows_name table.name) (rows_as_puts table.rows) (with_file (definition_name table.name) (definition table.column) files) query in_one) [
         | inl rows ↦ inl (of_first table tables query (inr rows))
         | inr in_two ↦ elim (from (definition_name table.name) (definition table.column) files query in_two) [
           | inl defined ↦ inl (of_first table tables query (inl defined))
@@ -219,7 +219,7 @@ counter_in_map db =
     kept db.tables ((counter_name, le64 db.next) ∷ []) counter_name (apart_counter db.tables)
     ∙ ap (λ t. cond t (Some (le64 db.next)) None) ((bytes_eq-Decides counter_name counter_name).1 refl)
 
-written_rows : (next : ℕ) (table : Table) → next ≤ 2 ^ 62 → IsSoundTable next table → SpellsRows (rows_text table.rows) table.rows
+written_rows : (next : ℕ) (table : Table) → next ≤ 2 ^ 62 → IsSoundTable next table → SpellsRows (rows_as_puts table.rows) table.rows
 written_rows next table most sound =
     canonical_rows table.rows
     (recursion_from_All CanPut table.rows (λ k d within. (

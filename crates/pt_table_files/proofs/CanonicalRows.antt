@@ -12,7 +12,7 @@ use Rattle.std.proofs.lemmas.Map.Keys.{sorted_head, sorted_tail}
 use Rattle.pt_flat.specs.Step.{is_int}
 use Rattle.pt_table_files.specs.declared.record.Record.{Record}
 use Rattle.pt_table_files.specs.declared.record.Record.TheVariants.{Put}
-use Rattle.pt_table_files.specs.Records.{put_text, rows_text, may_put, with_values, SpellsRows}
+use Rattle.pt_table_files.specs.Records.{put_text, rows_as_puts, may_put, with_values, SpellsRows}
 use Rattle.pt_table_files.proofs.RecordTexts.{put_is_text}
 use Rattle.pt_table_files.proofs.Reading.{Read, AreTexts, text_of, left_by}
 
@@ -61,7 +61,7 @@ puts_leave front (row ∷ rows) each above rising =
     ∙ rest
     ∙ ap Some (append_assoc front (put ∷ []) (with_values rows))
 
-puts_text : (rows : List (ℕ × ℤ)) → rows_text rows ≡ text_of (map put_of rows)
+puts_text : (rows : List (ℕ × ℤ)) → rows_as_puts rows ≡ text_of (map put_of rows)
 puts_text [] = refl
 puts_text (row ∷ rows) = ap (λ xs. put_text row.0 row.1 ++ xs) (puts_text rows)
 
@@ -73,7 +73,7 @@ above_none : (rows : List (ℕ × ℤ)) → AllByRecursion (λ r. Above [] r.0) 
 above_none [] = tt
 above_none (row ∷ rows) = (tt, above_none rows)
 
-pub canonical_rows : (rows : List (ℕ × ℤ)) → AllByRecursion CanPut rows → IsStrictlySortedBy nat_cmp (keys_of rows) → SpellsRows (rows_text rows) rows
+pub canonical_rows : (rows : List (ℕ × ℤ)) → AllByRecursion CanPut rows → IsStrictlySortedBy nat_cmp (keys_of rows) → SpellsRows (rows_as_puts rows) rows
 canonical_rows rows each rising = record {
   records = map put_of rows;
   each = puts_are rows each;

@@ -4,7 +4,7 @@ use Rattle.std.specs.Prelude.{IsSome}
 use Rattle.std.specs.Str.{bytes_eq}
 use Rattle.std.proofs.lemmas.List.Elements.{All-nil}
 use Rattle.pt_host.specs.Listed.{FileList, by_name}
-use Rattle.pt_left.specs.Left.{serials_name, with_serials, StandsFor}
+use Rattle.pt_left.specs.Left.{serials_name, with_serials, GivesMap}
 use Rattle.pt_table_files.specs.Numbers.{le64}
 use Rattle.pt_table_files.specs.FileNames.{definition_name}
 use Rattle.pt_table_files.specs.Holds.{HasTable, Holds}
@@ -24,7 +24,7 @@ same_presence a b query there = go (bytes_eq serials_name query) there
     go true h = refl
     go false h = h
 
-stands_for_counter : StandsFor None (counter_alone [])
+stands_for_counter : GivesMap None (counter_alone [])
 unfolding with_serials
 stands_for_counter = record { spelled = []; is = refl; complete = refl }
 

@@ -8,7 +8,7 @@ use Rattle.pt_flat.specs.declared.data.Table.{Table}
 use Rattle.pt_flat.specs.declared.data.Db.{Db}
 use Rattle.pt_table_files.specs.Numbers.{le64}
 use Rattle.pt_table_files.specs.Definition.{definition}
-use Rattle.pt_table_files.specs.Records.{rows_text}
+use Rattle.pt_table_files.specs.Records.{rows_as_puts}
 use Rattle.pt_table_files.specs.FileNames.{definition_name, rows_name, counter_name}
 
 -- with a file of this name, in its place
@@ -17,7 +17,7 @@ with_file name bytes files = insert_entry (slice_cmp nat_cmp) files name bytes
 
 -- with the two files of this table
 abbrev pub with_table : Table → FileList → FileList
-with_table table files = with_file (rows_name table.name) (rows_text table.rows) (with_file (definition_name table.name) (definition table.column) files)
+with_table table files = with_file (rows_name table.name) (rows_as_puts table.rows) (with_file (definition_name table.name) (definition table.column) files)
 
 abbrev pub with_tables : List Table → FileList → FileList
 with_tables [] files = files

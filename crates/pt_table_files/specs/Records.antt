@@ -87,5 +87,5 @@ abbrev pub put_text : ℕ → ℤ → List ℕ
 put_text serial value = record_text (1 ∷ le64 serial ++ int_cells value)
 
 -- a put for each row
-abbrev pub rows_text : List (ℕ × ℤ) → List ℕ
-rows_text rows = flat_map (λ row. put_text row.0 row.1) rows
+abbrev pub rows_as_puts : List (ℕ × ℤ) → List ℕ
+rows_as_puts rows = flat_map (λ row. put_text row.0 row.1) rows

@@ -1,6 +1,6 @@
 ghost use Rattle.std.specs.Prelude.{◌≡◌, ◌++◌, List, ℕ, ℤ, Some, None, map, if◌then◌else◌, IfSome, IfNone, IfOk};
 ghost use Rattle.std.specs.List.{flat_map};
-ghost use Rattle.pt_table_files.specs.Records.{SpellsRows, after, rows_text, with_values};
+ghost use Rattle.pt_table_files.specs.Records.{SpellsRows, after, rows_as_puts, with_values};
 
 use crate::record::{Record, put_record, record_at};
 use pt_flat::Rows;
@@ -65,7 +65,7 @@ fn apply(rows: &mut BTreeMap<u64, Option<i32>>, entry: Record) -> Result<bool, A
 
 /// A put for each row.
 pub fn rows_bytes(alloc: Global, rows: &Rows) -> Result<List<u8>, AllocError>
-    ensures { IfOk result (λ bytes. bytes ≡ rows_text rows.now) }
+    ensures { IfOk result (λ bytes. bytes ≡ rows_as_puts rows.now) }
 {
     let mut bytes = Vec::new(alloc);
     for (serial, value) in rows.items() {
