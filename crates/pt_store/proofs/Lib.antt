@@ -5,3 +5,11 @@ pub mod Placed
 pub mod Kept
 pub mod Moments
 pub mod Steps
+pub mod Maps
+pub mod Listing
+pub mod Sought
+pub mod Fetched
+pub mod Ordered
+pub mod Next
+pub mod Stepping
+pub mod EachName

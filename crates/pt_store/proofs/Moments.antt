@@ -1,7 +1,6 @@
 -- What the directory stands for, over runs of the store's calls.
 use Rattle.std.proofs.Common.{◌≡◌, ℕ, true, List, [], refl, sym, ap, subst, ◌∙◌, inl, inr}
-use Rattle.std.specs.Prelude.{Some, IsSome, Err}
-use Rattle.std.specs.declared.alloc.Global.{Global}
+use Rattle.std.specs.Prelude.{Some, IsSome, IsTrue, Err}
 use Rattle.pt_host.specs.Disk.{Fs, IsImage, EachImage, IsAtRest, IsSound, shown}
 use Rattle.pt_host.specs.World.{World, IsQuiet, OnlyLooks}
 use Rattle.pt_host.specs.Images.{IsHeld, OnlyAt}
@@ -15,7 +14,7 @@ use Rattle.pt_store.specs.declared.store.Store.{Store}
 use Rattle.pt_store.specs.Entries.{AreEntries, HasEntries, IsMeaningless, bytes_of}
 use Rattle.pt_left.specs.Left.{whole_name, shadow_name, with_serials, SpelledIn, GivesMap, Left, NoneLeft, IsLeft, IsEither, OnlyOwn, AsBeforeButOwn}
 use Rattle.pt_left.proofs.Directories.{apart, left_same, at_rest_left}
-use Rattle.pt_store.specs.Store.{IsStore}
+use Rattle.pt_store.specs.Store.{IsStore, is_live}
 use Rattle.pt_store.specs.declared.stop.Stop.{Stop}
 use Rattle.pt_store.specs.declared.stop.Stop.TheVariants.{NoMemory, Fault, Bad}
 use Rattle.pt_store.specs.Stops.{IfBad}
@@ -39,22 +38,22 @@ module _ (old cleared read : World) (sound : IsSound cleared.now.fs) (rest : IsA
   pub meaningless : IsMeaningless (shown cleared.now.fs whole_name) → NoneLeft (shown old.now.fs)
   meaningless none map left = none left.spelled (subst (λ whole. SpelledIn whole left.spelled) (sym same_whole) left.is)
 
-  pub attached : (alloc : Global) (entries added : List Entry) → IsClear cleared.now.fs shadow_name → read.now.fs ≡ cleared.now.fs → IsQuiet cleared read (IsImage cleared.now.fs) → IsSome old.dir
+  pub attached : (store : Store) (entries : List Entry) → IsTrue (is_live store) → IsClear cleared.now.fs shadow_name → read.now.fs ≡ cleared.now.fs → IsQuiet cleared read (IsImage cleared.now.fs) → IsSome old.dir
       → HasEntries (shown cleared.now.fs whole_name) entries
-      → ((bytes : List ℕ) (files : FileList) → AreEntries bytes entries files → AreEntries bytes added (with_serials files))
-      → (map : FileList) × EachImage old.now.fs (IsLeft map) × IsStore (record { alloc = alloc; entries = added; live = true }) map read
-  attached alloc entries added clear same image entered has complete =
+      → ((bytes : List ℕ) (files : FileList) → AreEntries bytes entries files → AreEntries bytes store.entries (with_serials files))
+      → (map : FileList) × EachImage old.now.fs (IsLeft map) × IsStore store map read
+  attached store entries live clear same image entered has complete =
       let left : Left (shown old.now.fs) (with_serials has.files) =
       record { spelled = has.files; is = subst (λ whole. SpelledIn whole has.files) same_whole has.spelled; complete = refl } in
       let each : EachImage old.now.fs (IsLeft (with_serials has.files)) = at_rest_left old.now.fs (with_serials has.files) rest left in (
         with_serials has.files,
         each,
         record {
-          live = refl;
+          live = live;
           left = (image_then old cleared read (IsLeft (with_serials has.files)) (but_left old cleared (with_serials has.files) each but) image).now;
           entered = subst IsSome (sym (image.dir ∙ but.dir)) entered;
           settled = ap (λ (fs : Fs). fs.pending) same ∙ clear.settled;
-          here = subst (λ (fs : Fs). AreEntries (bytes_of (shown fs whole_name)) added (with_serials has.files)) (sym same)
+          here = subst (λ (fs : Fs). AreEntries (bytes_of (shown fs whole_name)) store.entries (with_serials has.files)) (sym same)
               (complete (bytes_of (shown cleared.now.fs whole_name)) has.files has.are);
         },
       )
@@ -82,13 +81,13 @@ module _ (old new : World) (bytes : List ℕ) (files : FileList) (stands : Gives
       (λ x y left step. elim step.here [ inl same ↦ inl (left_same before x y same left) | inr put_in ↦ inr (subst (λ whole. GivesMap whole files) (sym put_in) stands) ])
       either
 
-  pub replaced : (alloc : Global) (entries : List Entry) → IsSound new.now.fs → IsSome old.dir → IsHeld new.now.fs whole_name bytes → new.now.fs.pending ≡ [] → AreEntries bytes entries files → IsStore (record { alloc = alloc; entries = entries; live = true }) files new
-  replaced alloc entries sound entered held settled are = record {
-    live = refl;
+  pub replaced : (store : Store) → IsTrue (is_live store) → IsSound new.now.fs → IsSome old.dir → IsHeld new.now.fs whole_name bytes → new.now.fs.pending ≡ [] → AreEntries bytes store.entries files → IsStore store files new
+  replaced store live sound entered held settled are = record {
+    live = live;
     left = λ images image. subst (λ whole. GivesMap whole files) (sym (held_image new.now.fs whole_name bytes held images image)) stands;
     entered = subst IsSome (sym either.dir) entered;
     settled = settled;
-    here = subst (λ whole. AreEntries (bytes_of whole) entries files) (sym (held_shown new.now.fs whole_name bytes sound held)) are;
+    here = subst (λ whole. AreEntries (bytes_of whole) store.entries files) (sym (held_shown new.now.fs whole_name bytes sound held)) are;
   }
 
 -- no other file than the store's own two has changed

@@ -1,7 +1,10 @@
 -- What a store keeps of each file of its map: the name, the length, and the place of its bytes in `whole.map`.
-use Rattle.std.specs.Prelude.{◌≡◌, ℕ, ◌+◌, ◌≤◌, List, [], ◌∷◌, ◌++◌, cond, length, take, drop, Option, Some, None}
+use Rattle.std.specs.Prelude.{◌≡◌, ℕ, ◌+◌, ◌≤◌, List, [], ◌∷◌, ◌++◌, cond, length, map, take, drop, Option, Some, None, All}
 use Rattle.std.specs.List.{AllZip}
+use Rattle.std.specs.List.Sorted.{IsStrictlySortedBy}
 use Rattle.std.specs.Str.{bytes_eq}
+use Rattle.std.specs.Cmp.Lexicographic.{slice_cmp}
+use Rattle.std.specs.Ordering.{nat_cmp}
 use Rattle.pt_host.specs.Listed.{FileList}
 use Rattle.pt_store.specs.declared.entry.Entry.{Entry}
 use Rattle.pt_left.specs.Left.{SpelledIn}
@@ -16,6 +19,18 @@ pub record IsEntry (bytes : List ℕ) (entry : Entry) (file : List ℕ × List �
 -- The entries are these files', one for each.
 unfoldable pub AreEntries : List ℕ → List Entry → FileList → Type 0
 AreEntries bytes entries files = AllZip (IsEntry bytes) entries files
+
+-- Their names rise in byte order, each once.
+abbrev pub AreInOrder : List Entry → Type 0
+AreInOrder entries = IsStrictlySortedBy (slice_cmp nat_cmp) (map (λ entry. entry.name) entries)
+
+-- Each has its bytes within these.
+abbrev pub AreWithin : List ℕ → List Entry → Type 0
+AreWithin bytes entries = All (λ entry. entry.place + entry.length ≤ length bytes) entries
+
+-- the files that entries have in these bytes
+abbrev pub files_at : List ℕ → List Entry → FileList
+files_at bytes entries = map (λ entry. (entry.name, take entry.length (drop entry.place bytes))) entries
 
 -- the name and the length of an entry
 abbrev pub size_of : Entry → List ℕ × ℕ

@@ -7,7 +7,7 @@ ghost use Rattle.pt_host.specs.Counts.{DiskCall};
 ghost use Rattle.pt_host.specs.Images.{IsHeld};
 ghost use Rattle.pt_host.specs.Replacement.{AsBeforeBut, IsBeforeOrAfter, IsClear, IsReady};
 ghost use Rattle.pt_left.specs.Left.{whole_name, shadow_name, IsWhole};
-ghost use Rattle.pt_store.specs.Entries.{HasEntries, IsMeaningless};
+ghost use Rattle.pt_store.specs.Entries.{AreInOrder, HasEntries, IsMeaningless};
 ghost use Rattle.pt_store.specs.Stops.{IsCounted, IfBad};
 
 use crate::Stop;
@@ -37,6 +37,7 @@ pub(crate) fn clear_shadow<H: Host>(host: &mut H) -> Result<(), HostFail>
 /// An entry for each file of the map that `whole.map` spells.
 pub(crate) fn read_entries<H: Host>(alloc: Global, host: &mut H) -> Result<List<Entry>, Stop>
     requires { H.tells → IsSome (H.world host.old).dir }
+    ensures order { IfOk result AreInOrder }
     ensures found { IfOk result (λ entries. H.tells → HasEntries (shown (H.world host.old).now.fs whole_name) entries) }
     ensures looks { H.tells → OnlyLooks (H.world host.old) (H.world host.new) }
     ensures bad { IfBad result (λ name place. IsWhole name place × (H.tells → IsMeaningless (shown (H.world host.old).now.fs whole_name))) }

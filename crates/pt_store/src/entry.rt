@@ -1,8 +1,11 @@
-ghost use Rattle.std.specs.Prelude.{◌≡◌, map, slice_get};
+ghost use Rattle.std.specs.Prelude.{◌≡◌, length, map, slice_get};
 ghost use Rattle.std.specs.List.{find};
 ghost use Rattle.std.specs.Option.{option_copied, option_map};
+ghost use Rattle.std.specs.List.Sorted.{IsBinarySearchResult, IsSearchInRange};
+ghost use Rattle.std.specs.Cmp.Lexicographic.{slice_cmp};
+ghost use Rattle.std.specs.Ordering.{nat_cmp};
 ghost use Rattle.std.specs.Str.{bytes_eq};
-ghost use Rattle.pt_store.specs.Entries.{size_of, length_in};
+ghost use Rattle.pt_store.specs.Entries.{AreInOrder, size_of, length_in};
 
 use pt_host::Name;
 
@@ -14,15 +17,28 @@ pub(crate) struct Entry {
     pub(crate) length: u64,
 }
 
-/// The first entry of this name.
+/// The entry of this name, sought by halves.
 pub(crate) fn entry_of<'a>(entries: &'a [Entry], name: &Name) -> Option<&'a Entry>
+    requires { AreInOrder entries.now }
     ensures { option_copied result ≡ find (λ entry. bytes_eq entry.name name.now) entries.now }
 {
-    entries.iter().find(|entry| entry.name == *name)
+    match place_of(entries, name) {
+        Ok(place) => Some(&entries[place]),
+        Err(_) => None,
+    }
 }
 
-/// The length of the first file of this name.
+/// Where the entry of this name stands, or would stand.
+fn place_of(entries: &[Entry], name: &Name) -> Result<usize, usize>
+    ensures bound { IsSearchInRange result (length entries.now) }
+    ensures place { IsBinarySearchResult (λ entry. slice_cmp nat_cmp entry.name name.now) entries.now result }
+{
+    entries.binary_search_by_key(name, |entry| entry.name)
+}
+
+/// The length of the file of this name.
 pub(crate) fn length_of(entries: &[Entry], name: &Name) -> Option<u64>
+    requires { AreInOrder entries.now }
     ensures { result ≡ length_in (map size_of entries.now) name.now }
 {
     let entry = entry_of(entries, name)?;

@@ -17,8 +17,12 @@
 //! It stands on `pt_left`, which says what a directory stands for (`Left`), `pt_host` and `pt_plain`.
 #![tactic(auto)]
 
+mod changes;
+mod contents;
 mod disk;
 mod entry;
+mod fetch;
+mod law;
 mod parse;
 mod serials;
 mod spell;
@@ -26,5 +30,6 @@ mod stop;
 mod store;
 mod swap;
 
+pub use law::reshapes_by_name;
 pub use stop::Stop;
 pub use store::Store;

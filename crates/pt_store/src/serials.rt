@@ -1,7 +1,7 @@
 //! The file that each map has.
 ghost use Rattle.std.specs.Prelude.{◌≡◌, ℕ, List as Listed, map, OnOk, IsSome};
 ghost use Rattle.pt_host.specs.Listed.{FileList};
-ghost use Rattle.pt_store.specs.Entries.{AreEntries, length_in, size_of};
+ghost use Rattle.pt_store.specs.Entries.{AreEntries, AreInOrder, length_in, size_of};
 ghost use Rattle.pt_left.specs.Left.{serials_name, with_serials};
 
 use crate::entry::Entry;
@@ -11,6 +11,8 @@ use std::cmp::Ordering;
 
 /// Adds an entry for an empty `serials.cnt` in its place, where there is none.
 pub(crate) fn add_serials(entries: &mut List<Entry>) -> Result<(), AllocError>
+    requires { AreInOrder entries.old }
+    ensures order { OnOk result (AreInOrder entries.new) }
     ensures has { OnOk result (IsSome (length_in (map size_of entries.new) serials_name)) }
     ensures files { OnOk result ((bytes : Listed ℕ) (files : FileList) → AreEntries bytes entries.old files → AreEntries bytes entries.new (with_serials files)) }
 {

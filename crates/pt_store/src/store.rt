@@ -1,36 +1,43 @@
-ghost use Rattle.std.specs.Prelude.{◌≡◌, false, length, map, Some, IfOk, IsSome, IsTrue, Contains, slice_get};
+ghost use Rattle.std.specs.Prelude.{◌≡◌, ℕ, List as Listed, false, is_some, length, map, Some, Err, IfOk, IsSome, IsTrue, Contains, slice_get};
 ghost use Rattle.std.specs.Option.{option_map};
 ghost use Rattle.pt_host.specs.Disk.{EachImage, IsAtRest, shown};
 ghost use Rattle.pt_host.specs.Listed.{FileList, AreRising, by_name};
 ghost use Rattle.pt_host.specs.World.{World, IsQuiet};
 ghost use Rattle.pt_left.specs.Left.{serials_name, IsLeft, IsWhole, NoneLeft, AsBeforeButOwn};
+ghost use Rattle.std.specs.List.Sorted.{IsStrictlySortedBy-prop};
 ghost use Rattle.pt_store.specs.Stops.{ByStop, IsCounted, IfBad};
-ghost use Rattle.pt_store.specs.Step.{HasSizes, IsLook, IsStep, OnlyClears};
-ghost use Rattle.pt_store.specs.Entries.{length_in};
-ghost use Rattle.pt_store.specs.Store.{IsStore, HasMap, is_live, sizes};
+ghost use Rattle.pt_store.specs.Batch.{IsBatch, appended};
+ghost use Rattle.pt_store.specs.Reshape.{HasNames, IsReshape, IsReshaped, held, reshaped};
+ghost use Rattle.pt_store.specs.Entries.{AreInOrder, length_in};
 
 use crate::Stop;
+use crate::changes::{appended, reshaped};
 use crate::disk::{clear_shadow, read_entries, read_range};
 use crate::entry::{Entry, entry_of, length_of, name_of};
 use crate::serials::add_serials;
 use crate::spell::spell;
 use crate::swap::replace_whole;
+use pt_ddl_log::Chain;
 use pt_host::{FileList, Host, Name};
 use pt_plain::List;
 use std::alloc::Global;
 
 /// The map that a directory holds in one file: the names of its files, with their lengths. Their bytes stay on the disk.
 ///
-/// A store is live until a `replace` answers `Fault`. From then on it is of no use: what the directory holds is the
+/// A store is live until a call that changes the map answers `Fault`. From then on it is of no use: what the directory holds is the
 /// old map or the new one, and only another `attach` tells which.
 #[derive(Debug, Drop)]
 pub struct Store {
     alloc: Global,
     entries: List<Entry>,
     live: bool,
+    ghost order: { AreInOrder entries } by { IsStrictlySortedBy-prop _ _ },
 }
 
 impl Store {
+    ghost use Rattle.pt_store.specs.Step.{HasSizes, IsLook, IsStep, OnlyClears};
+    ghost use Rattle.pt_store.specs.Store.{IsStore, HasMap, is_live, sizes};
+
     /// The store of the directory that was entered, whose files stand at rest. A shadow that an earlier run left is
     /// removed first. `Bad`, of `whole.map` and place 0, exactly where that file spells no map.
     pub fn attach<H: Host>(alloc: Global, host: &mut H) -> Result<Store, Stop>
@@ -55,7 +62,7 @@ impl Store {
         })
     }
 
-    /// Whether no `replace` has answered `Fault`.
+    /// Whether no call that changes the map has answered `Fault`.
     pub fn is_live(&self) -> bool
         ensures { result ≡ is_live self.now }
     {
@@ -105,12 +112,74 @@ impl Store {
         Ok(bytes)
     }
 
+    /// Adds the bytes of each part of the batch at the end of the file of its name. `NoMemory` leaves the map and the store
+    /// as they were. After `Fault` the store is no longer live.
+    pub fn append<H: Host>(&mut self, host: &mut H, batch: &FileList) -> Result<(), Stop>
+        requires live { IsTrue (is_live self.old) }
+        requires batch { IsBatch (sizes self.old) batch.now }
+        requires stands { H.tells → HasMap self.old (H.world host.old) }
+        // At every moment, whatever is answered, the directory stands for the old map or the one with these bytes.
+        ensures told { H.tells → (map : FileList) → IsStore self.old map (H.world host.old) → IsStep self.new map (appended batch.now map) (H.world host.old) (H.world host.new) result }
+        // At every moment no other file than its own two has changed.
+        ensures others { H.tells → IsQuiet (H.world host.old) (H.world host.new) (AsBeforeButOwn (H.world host.old).now.fs) }
+        // Over every host it holds the same names.
+        ensures after { ByStop result (IsTrue (is_live self.new) × (map (λ size. size.0) (sizes self.new) ≡ map (λ size. size.0) (sizes self.old))) (self.new ≡ self.old) (is_live self.new ≡ false) }
+        ensures bad { IfBad result (λ name place. IsWhole name place × (H.tells → ⊥)) }
+        ensures counts { IsCounted (H.counts host.old) (H.counts host.new) result }
+    {
+        match appended(self.alloc, self.entries.items(), host, batch.items()) {
+            Ok(files) => self.replace(host, &files),
+            Err(stop) => Err(self.stopped(stop)),
+        }
+    }
+
+    /// Does the acts of the chain to the map, with the fresh bytes under their shadows. `NoMemory` leaves the map and the
+    /// store as they were. After `Fault` the store is no longer live.
+    pub fn reshape<H: Host>(
+        &mut self,
+        host: &mut H,
+        fresh: &FileList,
+        chain: &Chain,
+    ) -> Result<(), Stop>
+        requires live { IsTrue (is_live self.old) }
+        requires reshape { IsReshape (sizes self.old) fresh.now chain.now }
+        requires stands { H.tells → HasMap self.old (H.world host.old) }
+        // At every moment, whatever is answered, the directory stands for the old map or what the acts make of it.
+        ensures told { H.tells → (map : FileList) → IsStore self.old map (H.world host.old) → (next : FileList) × IsReshaped fresh.now chain.now map next × IsStep self.new map next (H.world host.old) (H.world host.new) result }
+        // At every moment no other file than its own two has changed.
+        ensures others { H.tells → IsQuiet (H.world host.old) (H.world host.new) (AsBeforeButOwn (H.world host.old).now.fs) }
+        // Over every host it holds the names that the acts make of those that it held.
+        ensures after { ByStop result (IsTrue (is_live self.new) × ((name : Listed ℕ) → is_some (length_in (sizes self.new) name) ≡ is_some (reshaped fresh.now chain.now (held (sizes self.old)) name))) (self.new ≡ self.old) (is_live self.new ≡ false) }
+        ensures bad { IfBad result (λ name place. IsWhole name place × (H.tells → ⊥)) }
+        ensures counts { IsCounted (H.counts host.old) (H.counts host.new) result }
+    {
+        match reshaped(self.alloc, self.entries.items(), host, fresh.items(), chain) {
+            Ok(files) => self.replace(host, &files),
+            Err(stop) => Err(self.stopped(stop)),
+        }
+    }
+
+    /// Why a call stopped. After a fault the store is no longer live.
+    fn stopped(&mut self, stop: Stop) -> Stop
+        ensures same { result ≡ stop }
+        ensures after { ByStop {T = Unit {0}} (Err stop) (Unit {0}) (self.new ≡ self.old) (is_live self.new ≡ false) }
+    {
+        match stop {
+            Stop::NoMemory => Stop::NoMemory,
+            Stop::Fault => {
+                self.live = false;
+                Stop::Fault
+            }
+            Stop::Bad { name, place } => Stop::Bad { name, place },
+        }
+    }
+
     /// Puts this map in the place of the old one. `NoMemory` leaves all as it was. After `Fault` the store is no
     /// longer live.
     pub fn replace<H: Host>(&mut self, host: &mut H, files: &FileList) -> Result<(), Stop>
         requires live { IsTrue (is_live self.old) }
         requires rising { AreRising files.now }
-        requires serials { Contains (map (λ file. file.0) files.now) serials_name }
+        requires serials { H.tells → Contains (map (λ file. file.0) files.now) serials_name }
         requires stands { H.tells → HasMap self.old (H.world host.old) }
         // At every moment, whatever is answered, the directory stands for the old map or the new one.
         ensures told { H.tells → (old : FileList) → IsStore self.old old (H.world host.old) → IsStep self.new old files.now (H.world host.old) (H.world host.new) result }

@@ -1,6 +1,19 @@
 use Rattle.std.proofs.Common.{Less, Equal, Greater}
 use Rattle.pt_store.proofs.Placed.{at_end, in_front, already, stands_at, before_more, before_all, has_at_end, has_inserted, has_already}
+use Rattle.pt_store.specs.Entries.{AreInOrder}
+use Rattle.pt_store.proofs.Ordered.{inserted_in_order, pushed_in_order}
 use Rattle.pt_store.proofs.serials.add_serials.Goals as goal
+
+pub returns-in-Greater-clause-order : goal.returns-in-Greater-clause-order
+returns-in-Greater-clause-order c =
+    let here = stands_at _ c.loop-i.i c.entry-item.result _ _ Greater c.loop-i-test.true c.entry-item.is c.serials-name.ensures c.cmp.ensures c.in-Greater.is in
+    rw (c.in_ok-insert-in-Greater.ensures.ok, c.empty.ensures, c.serials-name.ensures)
+    (inserted_in_order c.args.entries.now c.loop-i.i (rw c.items-entry-items.ensures at c.loop-i-test.true) (rw c.items-entry-items.ensures at c.loop-i.invariant) (rw c.items-entry-items.ensures at here) c.requires)
+
+pub returns-clause-order : goal.returns-clause-order
+returns-clause-order c =
+    let before = before_all _ _ c.loop-i-test.false c.loop-i.invariant in
+    rw (c.in_ok-push.ensures.ok, c.empty-2.ensures, c.serials-name.ensures) (pushed_in_order c.args.entries.now (rw c.items-entry-items.ensures at before) c.requires)
 
 pub loop-i-preserved : goal.loop-i-preserved
 loop-i-preserved c =

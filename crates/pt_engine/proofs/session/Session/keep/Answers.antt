@@ -5,7 +5,7 @@ use Rattle.pt_engine.proofs.OpeningLemmas.{either_held, out_of_memory}
 use Rattle.pt_engine.proofs.session.Session.keep.Goals as goal
 
 pub replace-requires-clause-serials : goal.replace-requires-clause-serials
-replace-requires-clause-serials g c = c.in_ok-files.ensures.counter
+replace-requires-clause-serials g c = λ tells. c.in_ok-files.ensures.counter
 
 pub returns-in_err-files-clause-told : goal.returns-in_err-files-clause-told
 returns-in_err-files-clause-told g c tells files store =

@@ -1,4 +1,4 @@
-use Rattle.std.proofs.Common.{List}
+use Rattle.std.proofs.Common.{List, refl}
 use Rattle.std.proofs.lemmas.Result.{err_from_is_err_and}
 use Rattle.pt_host.proofs.Runs.{looks_quiet}
 use Rattle.pt_host.specs.Disk.{shown}
@@ -38,5 +38,5 @@ returns-clause-clears g c = λ tells.
 pub returns-clause-stands : goal.returns-clause-stands
 returns-clause-stands g c = λ tells.
     attached _ _ _ (g.met.H.Host.sound c.clear_shadow.new.host tells) (c.requires.rest tells) (c.in_ok-clear_shadow.ensures.quiet tells)
-    _ _ _ (c.in_ok-clear_shadow.ensures.clear tells) ((c.in_ok-entries.ensures.looks tells).now.fs) (looks_quiet _ _ _ (λ files image. image) (c.in_ok-entries.ensures.looks tells)) (c.requires.entered tells)
+    _ _ refl (c.in_ok-clear_shadow.ensures.clear tells) ((c.in_ok-entries.ensures.looks tells).now.fs) (looks_quiet _ _ _ (λ files image. image) (c.in_ok-entries.ensures.looks tells)) (c.requires.entered tells)
     (c.in_ok-entries.ensures.found tells) c.in_ok-add_serials.ensures.files
