@@ -1,0 +1,10 @@
+pub mod First
+pub mod Names
+pub mod Place
+pub mod Placing
+pub mod Fitting
+pub mod Checks
+pub mod Valid
+pub mod Written
+pub mod WrittenParts
+pub mod Complete
