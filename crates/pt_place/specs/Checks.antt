@@ -140,9 +140,13 @@ bad_expr table columns expr = of_finding table (is_some_name (names_in expr)) (c
 
 -- ---- partitions
 
--- more than 8192, the number cut at the greatest of 64 bits
+-- the number that a refusal tells: at most the greatest of 64 bits
+abbrev pub told : ℕ → ℕ
+told count = min count (2 ^ 64 - 1)
+
+-- more than 8192
 abbrev pub too_many : ℕ → Option Refusal
-too_many count = refused_if (nat_lt 8192 count) (refusal.TooManyPartitions (min count (2 ^ 64 - 1)))
+too_many count = refused_if (nat_lt 8192 (told count)) (refusal.TooManyPartitions (told count))
 
 -- the name of the partition at a position
 abbrev pub part_name_at : List PartDef → ℕ → List ℕ

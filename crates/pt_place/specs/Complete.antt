@@ -5,7 +5,7 @@
 -- of the text: a column that isn't there, a date that is none, an expression in a bound, a number that is written, a name that
 -- comes out too long. Names in refusals are those as written.
 use Rattle.std.specs.Prelude.{ℕ, ◌*◌, ℤ, unsigned_abs, Bool, true, false, not, ◌&&◌, ◌||◌, ◌==◌, nat_lt, List, [], ◌∷◌, map, length, is_none, is_some, Option, Some, None, Result, Ok, Err}
-use Rattle.std.specs.List.{list_any, flat_map, zip}
+use Rattle.std.specs.List.{list_any, flat_map}
 use Rattle.std.specs.Option.{option_map_or}
 use Rattle.pt_value.specs.declared.value.Value.{Value}
 use Rattle.pt_value.specs.declared.value.Kind.{Kind}
@@ -49,10 +49,10 @@ use Rattle.pt_place.specs.WrittenParts.{by_of, first_defined, is_date, part_coun
 
 abbrev pub bad_written_column : Kind → Bool → List ColOption → List (List ℕ) → List ℕ → Option Refusal
 bad_written_column k not_null options before name = first_of (
-  twice before name
-  ∷ refused_if (is_too_long k || is_bad_constant k (default_written options) || is_default_out k (default_in k options)) (refusal.OutOfRange (arg.Name name))
-  ∷ refused_if (is_default_wrong k not_null (default_in k options)) (refusal.TypeMismatch (arg.Name name))
-  ∷ [])
+    twice before name
+    ∷ refused_if (is_too_long k || is_bad_constant k (default_written options) || is_default_out k (default_in k options)) (refusal.OutOfRange (arg.Name name))
+    ∷ refused_if (is_default_wrong k not_null (default_in k options)) (refusal.TypeMismatch (arg.Name name))
+    ∷ [])
 
 -- a column among those before it; the keys have their turn later
 abbrev pub bad_item : List (List ℕ) → List Item → Item → Option Refusal
@@ -71,9 +71,9 @@ bad_list columns names = first_of (first_in (no_column columns) names ∷ in_tur
 
 abbrev pub bad_written_key : List Column → List KeyText → KeyText → Option Refusal
 bad_written_key columns before key = first_of (
-  bad_list columns key.columns
-  ∷ second_primary (map (λ other. other.rank) before) key.rank
-  ∷ [])
+    bad_list columns key.columns
+    ∷ second_primary (map (λ other. other.rank) before) key.rank
+    ∷ [])
 
 -- ---- what a table is partitioned by
 
@@ -163,7 +163,8 @@ is_out_item k (written.Value expr) = is_out_finding k (worth k expr) (item_findi
 
 -- some item of a tuple passes the test
 abbrev pub has_item : (Kind → BoundSpec → Bool) → List Kind → List BoundSpec → Bool
-has_item test kinds tuple = list_any (λ item. test item.0 item.1) (zip kinds tuple)
+has_item test (k ∷ kinds) (item ∷ items) = test k item || has_item test kinds items
+has_item test _ _ = false
 
 -- an item is wrong, or there aren't as many as kinds
 abbrev pub is_wrong_written : Bool → List Kind → List BoundSpec → Bool
@@ -173,10 +174,10 @@ is_wrong_written less kinds tuple = not (length tuple == length kinds) || has_it
 abbrev pub bad_tuples : List ℕ → List Kind → Bool → List ℕ → Option (List (List BoundSpec)) → Option Refusal
 bad_tuples table kinds less name None = Some (refusal.WrongValues name)
 bad_tuples table kinds less name (Some tuples) = first_of (
-  refused_if (list_any (is_wrong_written less kinds) tuples) (refusal.WrongValues name)
-  ∷ refused_if (list_any (has_item is_wide_item kinds) tuples) (refusal.TooWide (arg.Name table))
-  ∷ refused_if (list_any (has_item is_out_item kinds) tuples) (refusal.OutOfRange (arg.Name name))
-  ∷ [])
+    refused_if (list_any (is_wrong_written less kinds) tuples) (refusal.WrongValues name)
+    ∷ refused_if (list_any (has_item is_wide_item kinds) tuples) (refusal.TooWide (arg.Name table))
+    ∷ refused_if (list_any (has_item is_out_item kinds) tuples) (refusal.OutOfRange (arg.Name name))
+    ∷ [])
 
 abbrev pub bad_written_values : List ℕ → List Kind → PartBy → PartItem → Option Refusal
 bad_written_values table kinds kind part = bad_tuples table kinds (is_range kind) part.name (tuples_in kind part.values)
@@ -197,9 +198,9 @@ named_in part = (part.name, part.name) ∷ map (λ sub. (part.name, sub)) part.s
 -- a name that is made is too long, or a name stands before
 abbrev pub bad_name : List Named → Named → Option Refusal
 bad_name before named = first_of (
-  refused_if (nat_lt 64 (length named.1)) (refusal.DuplicatePartition named.0)
-  ∷ name_twice (map (λ other. other.1) before) named.1
-  ∷ [])
+    refused_if (nat_lt 64 (length named.1)) (refusal.DuplicatePartition named.0)
+    ∷ name_twice (map (λ other. other.1) before) named.1
+    ∷ [])
 
 abbrev pub bad_names : List PartDef → Option Refusal
 bad_names parts = in_turn bad_name (flat_map named_in parts)
@@ -208,27 +209,27 @@ bad_names parts = in_turn bad_name (flat_map named_in parts)
 
 abbrev pub bad_parts : List ℕ → List Column → PartBy → PartSpec → Option Refusal
 bad_parts table columns kind spec = first_of (
-  refused_if (is_without_written spec) (refusal.NoPartitions table)
-  ∷ too_many (part_count spec * sub_count spec)
-  ∷ first_in (other_written_subs spec) (defined spec)
-  ∷ first_in (bad_written_values table (kinds_of columns kind) kind) (defined spec)
-  ∷ bad_bounds kind (parts_of (kinds_of columns kind) kind spec)
-  ∷ bad_names (parts_of (kinds_of columns kind) kind spec)
-  ∷ [])
+    refused_if (is_without_written spec) (refusal.NoPartitions table)
+    ∷ too_many (part_count spec * sub_count spec)
+    ∷ first_in (other_written_subs spec) (defined spec)
+    ∷ first_in (bad_written_values table (kinds_of columns kind) kind) (defined spec)
+    ∷ bad_bounds kind (parts_of (kinds_of columns kind) kind spec)
+    ∷ bad_names (parts_of (kinds_of columns kind) kind spec)
+    ∷ [])
 
 unfoldable pub bad_spec : List ℕ → List Column → List KeyDef → PartSpec → Option Refusal
 bad_spec table columns keys spec =
     let kind = by_of columns keys spec.main in
     let sub = sub_of columns spec.sub in
     first_of (
-      sub_of_number table kind sub
-      ∷ key_of_none kind
-      ∷ key_of_none sub
-      ∷ bad_main table columns spec.main
-      ∷ bad_sub table columns spec.sub
-      ∷ lacking_key columns keys kind sub
-      ∷ bad_parts table columns kind spec
-      ∷ [])
+    sub_of_number table kind sub
+    ∷ key_of_none kind
+    ∷ key_of_none sub
+    ∷ bad_main table columns spec.main
+    ∷ bad_sub table columns spec.sub
+    ∷ lacking_key columns keys kind sub
+    ∷ bad_parts table columns kind spec
+    ∷ [])
 
 abbrev pub bad_spec_if : List ℕ → List Column → List KeyDef → Option PartSpec → Option Refusal
 bad_spec_if table columns keys None = None
@@ -241,10 +242,10 @@ unfoldable pub written_refusal : List ℕ → TableSpec → Option Refusal
 written_refusal table spec =
     let columns = columns_of spec.items in
     first_of (
-      in_turn (bad_item (primary_names spec.items)) spec.items
-      ∷ in_turn (bad_written_key columns) (keys_written spec.items)
-      ∷ bad_spec_if table columns (keys_of columns spec.items) spec.by
-      ∷ [])
+    in_turn (bad_item (primary_names spec.items)) spec.items
+    ∷ in_turn (bad_written_key columns) (keys_written spec.items)
+    ∷ bad_spec_if table columns (keys_of columns spec.items) spec.by
+    ∷ [])
 
 -- a table of these columns and keys, unpartitioned or partitioned so
 abbrev pub partitioned : List Column → List KeyDef → Option PartSpec → TableDef

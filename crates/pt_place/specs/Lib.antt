@@ -1,10 +1,11 @@
 pub mod First
 pub mod Names
-pub mod Place
-pub mod Placing
 pub mod Fitting
 pub mod Checks
+pub mod Place
+pub mod Placing
 pub mod Valid
+pub mod Lacking
 pub mod Written
 pub mod WrittenParts
 pub mod Complete

@@ -18,6 +18,7 @@ use Rattle.pt_ast.specs.Ranges.{range_part, range_columns_part}
 use Rattle.pt_ast.specs.Lists.{list_part}
 use Rattle.pt_expr.specs.Values.{whole_value}
 use Rattle.pt_place.specs.Names.{is_among}
+use Rattle.pt_place.specs.Checks.{is_whole}
 
 -- ---- one level
 
@@ -68,14 +69,12 @@ place_of def cells = option_map (spot_in def cells) (part_of def.columns def.by 
 abbrev pub part_name : TableDef → Spot → Option (List ℕ)
 part_name def spot = slice_get (map (λ part. part.name) def.parts) spot.part
 
--- the name of the subpartition, else that of the partition
-abbrev pub leaf_in : PartBy → TableDef → Spot → Option (List ℕ)
-leaf_in by.Whole def spot = part_name def spot
-leaf_in _ def spot = slice_get (subs_at def.parts spot.part) spot.sub
+abbrev pub sub_name : TableDef → Spot → Option (List ℕ)
+sub_name def spot = slice_get (subs_at def.parts spot.part) spot.sub
 
--- an unpartitioned table has no partitions, and so no names
+-- The name of the subpartition, else that of the partition. An unpartitioned table has no partitions, and so no names.
 abbrev pub leaf_of : TableDef → Spot → Option (List ℕ)
-leaf_of def spot = leaf_in def.sub def spot
+leaf_of def spot = if is_whole def.sub then part_name def spot else sub_name def spot
 
 abbrev pub spot_names : TableDef → Spot → List (List ℕ)
 spot_names def spot = option_to_list (part_name def spot) ++ option_to_list (leaf_of def spot)

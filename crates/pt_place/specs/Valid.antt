@@ -1,7 +1,7 @@
 -- What is refused of a complete definition: the first check that fails, in the order of CREATE TABLE. Columns and keys, then the
 -- partitioning before the subpartitioning, then the partitions.
 use Rattle.std.specs.Prelude.{◌≡◌, ℕ, ◌*◌, Bool, false, not, ◌&&◌, ◌||◌, ◌==◌, List, [], ◌∷◌, map, length, Option, None, if◌then◌else◌}
-use Rattle.std.specs.List.{list_any, zip}
+use Rattle.std.specs.List.{list_any}
 use Rattle.pt_value.specs.declared.value.Kind.{Kind}
 use Rattle.pt_ast.specs.declared.table.Bound.{Bound}
 use Rattle.pt_ast.specs.declared.table.Bound.TheVariants as bound
@@ -28,19 +28,19 @@ is_nullable_primary keys number column =
 
 abbrev pub bad_column : List KeyDef → List Column → Column → Option Refusal
 bad_column keys before column = first_of (
-  twice (names_of before) column.name
-  ∷ refused_if (is_too_long column.kind || is_default_out column.kind column.default) (refusal.OutOfRange (arg.Name column.name))
-  ∷ refused_if (is_default_wrong column.kind column.not_null column.default || is_nullable_primary keys (length before) column)
-      (refusal.TypeMismatch (arg.Name column.name))
-  ∷ [])
+    twice (names_of before) column.name
+    ∷ refused_if (is_too_long column.kind || is_default_out column.kind column.default) (refusal.OutOfRange (arg.Name column.name))
+    ∷ refused_if (is_default_wrong column.kind column.not_null column.default || is_nullable_primary keys (length before) column)
+    (refusal.TypeMismatch (arg.Name column.name))
+    ∷ [])
 
 -- ---- keys, in order
 
 abbrev pub bad_key : List Column → List KeyDef → KeyDef → Option Refusal
 bad_key columns before key = first_of (
-  in_turn twice (names_at columns key.columns)
-  ∷ second_primary (map (λ other. other.rank) before) key.rank
-  ∷ [])
+    in_turn twice (names_at columns key.columns)
+    ∷ second_primary (map (λ other. other.rank) before) key.rank
+    ∷ [])
 
 -- ---- what a table is partitioned by
 
@@ -84,7 +84,8 @@ is_bound_out k bound.Max = false
 
 -- some item of a tuple passes the test
 abbrev pub has_bound : (Kind → Bound → Bool) → List Kind → List Bound → Bool
-has_bound test kinds tuple = list_any (λ item. test item.0 item.1) (zip kinds tuple)
+has_bound test (k ∷ kinds) (item ∷ items) = test k item || has_bound test kinds items
+has_bound test _ _ = false
 
 -- an item is wrong, or there aren't as many as kinds
 abbrev pub is_wrong_tuple : Bool → List Kind → List Bound → Bool
@@ -101,40 +102,40 @@ is_tuple_count _ count = count == 0
 -- first VALUES of the wrong form or with a wrong item, then a value that is too large
 abbrev pub bad_values : List Kind → PartBy → PartDef → Option Refusal
 bad_values kinds main part = first_of (
-  refused_if (not (is_tuple_count main (length part.bounds)) || list_any (is_wrong_tuple (is_range main) kinds) part.bounds) (refusal.WrongValues part.name)
-  ∷ refused_if (list_any (has_bound is_bound_out kinds) part.bounds) (refusal.OutOfRange (arg.Name part.name))
-  ∷ [])
+    refused_if (not (is_tuple_count main (length part.bounds)) || list_any (is_wrong_tuple (is_range main) kinds) part.bounds) (refusal.WrongValues part.name)
+    ∷ refused_if (list_any (has_bound is_bound_out kinds) part.bounds) (refusal.OutOfRange (arg.Name part.name))
+    ∷ [])
 
 -- ---- the whole
 
 -- columns, and then keys, in their order
 abbrev pub bad_items : TableDef → Option Refusal
 bad_items def = first_of (
-  in_turn (bad_column def.keys) def.columns
-  ∷ in_turn (bad_key def.columns) def.keys
-  ∷ [])
+    in_turn (bad_column def.keys) def.columns
+    ∷ in_turn (bad_key def.columns) def.keys
+    ∷ [])
 
 -- the partitioning before the subpartitioning
 abbrev pub bad_kinds : List ℕ → TableDef → Option Refusal
 bad_kinds table def = first_of (
-  sub_of_number table def.by def.sub
-  ∷ key_of_none def.by
-  ∷ key_of_none def.sub
-  ∷ bad_by table def.columns def.by
-  ∷ bad_by table def.columns def.sub
-  ∷ lacking_key def.columns def.keys def.by def.sub
-  ∷ [])
+    sub_of_number table def.by def.sub
+    ∷ key_of_none def.by
+    ∷ key_of_none def.sub
+    ∷ bad_by table def.columns def.by
+    ∷ bad_by table def.columns def.sub
+    ∷ lacking_key def.columns def.keys def.by def.sub
+    ∷ [])
 
 -- how many, then each one's VALUES, then bounds and names position by position
 abbrev pub bad_parts : List ℕ → TableDef → Option Refusal
 bad_parts table def = first_of (
-  refused_if (is_without_parts def.by def.sub def.parts) (refusal.NoPartitions table)
-  ∷ too_many (leaf_count def.sub def.parts)
-  ∷ first_in (other_subs def.parts) def.parts
-  ∷ first_in (bad_values (kinds_of def.columns def.by) def.by) def.parts
-  ∷ bad_bounds def.by def.parts
-  ∷ in_turn name_twice (part_names def.parts)
-  ∷ [])
+    refused_if (is_without_parts def.by def.sub def.parts) (refusal.NoPartitions table)
+    ∷ too_many (leaf_count def.sub def.parts)
+    ∷ first_in (other_subs def.parts) def.parts
+    ∷ first_in (bad_values (kinds_of def.columns def.by) def.by) def.parts
+    ∷ bad_bounds def.by def.parts
+    ∷ in_turn name_twice (part_names def.parts)
+    ∷ [])
 
 -- What is refused of a table of this name and definition, if anything.
 abbrev pub refusal_of : List ℕ → TableDef → Option Refusal

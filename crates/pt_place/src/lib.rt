@@ -1,9 +1,17 @@
-//! What the text of CREATE TABLE means, which definitions a table may have, and where a row belongs. These are the definitions:
+//! What the text of CREATE TABLE means, which definitions a table may have, and where a row belongs.
 //!
-//! - `place_of` gives the spot of a row, by the partitioning and then by the subpartitioning; `leaf_of` the name of a spot, and
-//!   `is_in_set` whether a list of names has it.
+//! - `place` gives the spot of a row, by the partitioning and then by the subpartitioning (`place_of`).
+//! - `leaf` gives the name of a spot (`leaf_of`), and `in_set` tells whether a list of names has it (`is_in_set`).
 //! - `refusal_of` is the first check that a definition fails, in the order of CREATE TABLE.
-//! - `complete_of` is what a text means, with all names, numbers and constants worked out, or what is refused of it.
+//! - What a text means, or what is refused of it, is `complete_of`: all names, numbers and constants are worked out.
 //!
-//! It stands on `pt_expr`, `pt_bounds`, `pt_hash`, `pt_ast`, `pt_value` and `pt_plain`.
+//! None of the calls takes memory. It stands on `pt_expr`, `pt_bounds`, `pt_hash`, `pt_ast`, `pt_value` and `pt_plain`.
 #![tactic(auto)]
+
+mod kinds;
+mod names;
+mod placing;
+mod spot;
+
+pub use placing::place;
+pub use spot::{in_set, leaf};
