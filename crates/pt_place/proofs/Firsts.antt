@@ -1,9 +1,9 @@
 -- The first refusal, check by check and item by item.
-use Rattle.std.proofs.Common.{◌≡◌, ℕ, ◌+◌, ◌<◌, ◌≤◌, Bool, true, false, List, [], ◌∷◌, ◌++◌, length, take, drop, get_or, Option, Some, None, refl, sym, ap, ◌∙◌, arith}
+use Rattle.std.proofs.Common.{◌≡◌, ℕ, ◌+◌, ◌<◌, ◌≤◌, Bool, true, false, List, [], ◌∷◌, ◌++◌, length, take, drop, get_or, Option, Some, None, refl, sym, ap, ◌∙◌}
 use Rattle.std.specs.Option.{option_or}
 use Rattle.std.proofs.lemmas.List.{append_assoc, append-nil, at_drop_more, at_drop_all, take_more}
 use Rattle.pt_ast.specs.declared.refusal.Refusal.{Refusal}
-use Rattle.pt_place.specs.First.{refused_if, first_in, in_turn, in_turn_from}
+use Rattle.pt_place.specs.First.{refused_if, first_in, in_turn_from}
 
 -- ---- one check after another
 

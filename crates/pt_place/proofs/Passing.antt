@@ -1,5 +1,5 @@
 -- What a definition has that passes the checks.
-use Rattle.std.proofs.Common.{◌≡◌, ℕ, zero, suc, ◌+◌, ◌<◌, ◌≤◌, ◌^◌, Bool, true, false, not, ◌&&◌, ◌||◌, List, [], ◌∷◌, length, map, get_or, Option, Some, None, Result, Ok, Err, IsOk, ℤ, All, refl, sym, ap, ◌∙◌, subst, arith, nat_eq, slice_index_or, lit<}
+use Rattle.std.proofs.Common.{◌≡◌, ℕ, zero, suc, ◌<◌, ◌^◌, Bool, true, false, not, ◌&&◌, ◌||◌, List, [], ◌∷◌, length, map, Option, Some, None, Result, Ok, Err, IsOk, ℤ, All, refl, ap, arith, nat_eq, lit<}
 use Rattle.std.specs.List.{position}
 use Rattle.std.proofs.lemmas.Bool.{not-false, eqb-true, true≢false}
 use Rattle.std.proofs.lemmas.List.Elements.{All-head, All-tail}
@@ -14,17 +14,16 @@ use Rattle.pt_ast.specs.declared.table.Column.{Column}
 use Rattle.pt_ast.specs.declared.table.TableDef.{TableDef}
 use Rattle.pt_ast.specs.declared.refusal.Refusal.{Refusal}
 use Rattle.pt_ast.specs.declared.refusal.Refusal.TheVariants as refusal
-use Rattle.pt_ast.specs.Ranges.{is_above, range_fault, range_part}
+use Rattle.pt_ast.specs.Ranges.{is_above, range_part}
 use Rattle.pt_ast.specs.StorableDef.{AreSubsOf, IsStorableDef, IsStorablePartDef, IsWholeAlone}
 use Rattle.pt_expr.specs.declared.kind.ExprKind.{ExprKind}
 use Rattle.pt_expr.specs.declared.kind.CheckFault.{CheckFault}
-use Rattle.pt_expr.specs.Found.{checked}
 use Rattle.pt_place.specs.Checks.{bad_bounds, is_by_number, is_whole, key_of_none, lacking_key, name_twice, of_finding, of_range_fault, part_names, sub_of_number, too_many}
 use Rattle.pt_place.specs.Fitting.{kinds_of}
 use Rattle.pt_place.specs.First.{first_in, first_of, in_turn, refused_if}
 use Rattle.pt_place.specs.Place.{part_of, subs_at}
 use Rattle.pt_place.specs.Placing.{CanFind, CanFindBy, CanNumber}
-use Rattle.pt_place.specs.Valid.{IsValid, bad_by, bad_items, bad_kinds, bad_parts, bad_values, first_subs, is_without_parts, leaf_count, other_subs, refusal_of}
+use Rattle.pt_place.specs.Valid.{IsValid, bad_by, bad_items, bad_kinds, bad_parts, bad_values, first_subs, is_without_parts, leaf_count, other_subs}
 use Rattle.pt_place.proofs.Firsts.{none_first, none_next, passes}
 
 -- ---- the checks that placing rests on

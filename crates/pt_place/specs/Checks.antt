@@ -25,7 +25,7 @@ use Rattle.pt_expr.specs.declared.kind.ExprKind.TheVariants as expr
 use Rattle.pt_expr.specs.declared.kind.CheckFault.{CheckFault}
 use Rattle.pt_expr.specs.declared.kind.CheckFault.TheVariants as fault
 use Rattle.pt_expr.specs.Found.{checked}
-use Rattle.pt_place.specs.First.{refused_if, first_of, first_in, in_turn}
+use Rattle.pt_place.specs.First.{refused_if, first_in}
 use Rattle.pt_place.specs.Fitting.{is_in_range, is_of_kind}
 use Rattle.pt_place.specs.Names.{columns_used, is_among, names_in}
 

@@ -4,7 +4,7 @@
 -- It is the order of Valid.antt, and the checks that can be made of the complete definition are the same. Those that can't are made
 -- of the text: a column that isn't there, a date that is none, an expression in a bound, a number that is written, a name that
 -- comes out too long. Names in refusals are those as written.
-use Rattle.std.specs.Prelude.{ℕ, ◌*◌, ℤ, unsigned_abs, Bool, true, false, not, ◌&&◌, ◌||◌, ◌==◌, nat_lt, List, [], ◌∷◌, map, length, is_none, is_some, Option, Some, None, Result, Ok, Err}
+use Rattle.std.specs.Prelude.{ℕ, ◌*◌, ℤ, unsigned_abs, Bool, true, false, not, ◌&&◌, ◌||◌, ◌==◌, nat_lt, List, [], ◌∷◌, map, length, is_none, Option, Some, None, Result, Ok, Err}
 use Rattle.std.specs.List.{list_any, flat_map}
 use Rattle.std.specs.Option.{option_map_or}
 use Rattle.pt_value.specs.declared.value.Value.{Value}

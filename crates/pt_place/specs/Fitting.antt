@@ -1,5 +1,5 @@
 -- Which values a column, a bound or a list value may have, as tests.
-use Rattle.std.specs.Prelude.{ℕ, ℤ, pos, neg_ℤ, int_le, Bool, true, false, not, ◌&&◌, nat_le, List, map, length, slice_index_or, [], ◌∷◌}
+use Rattle.std.specs.Prelude.{ℕ, pos, neg_ℤ, int_le, Bool, true, false, ◌&&◌, nat_le, List, map, length, slice_index_or, [], ◌∷◌}
 use Rattle.pt_value.specs.Fits.{fits_date}
 use Rattle.pt_value.specs.declared.value.Value.{Value}
 use Rattle.pt_value.specs.declared.value.Value.TheVariants as value

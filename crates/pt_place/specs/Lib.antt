@@ -6,6 +6,7 @@ pub mod Place
 pub mod Placing
 pub mod Valid
 pub mod Lacking
+pub mod Used
 pub mod Written
 pub mod WrittenParts
 pub mod Complete

@@ -1,7 +1,7 @@
 -- Names of columns and partitions, which are the same but for the case of ASCII letters: MySQL 5.7 manual, section 9.2.3,
 -- "Identifier Case Sensitivity".
-use Rattle.std.specs.Prelude.{ℕ, ◌<◌, Bool, nat_lt, List, [], ◌∷◌, ◌++◌, map, length, slice_index_or, Option}
-use Rattle.std.specs.List.{list_any, flat_map, filter_map, position, position_or_len}
+use Rattle.std.specs.Prelude.{ℕ, Bool, List, [], ◌∷◌, ◌++◌, map, slice_index_or, Option}
+use Rattle.std.specs.List.{list_any, flat_map, filter_map, position}
 use Rattle.std.specs.Str.{str_eq_ignore_ascii_case}
 use Rattle.pt_ast.specs.declared.tree.Expr.{Expr, fold-Expr}
 use Rattle.pt_ast.specs.declared.tree.Expr.TheOpen.{Expr-F}

@@ -1,6 +1,6 @@
 -- What the text of a partitioning means: what the rows are partitioned by, names that aren't written, numbers, bounds and lists. MySQL
 -- 5.7 manual, section 22.2, "Partitioning Types".
-use Rattle.std.specs.Prelude.{ℕ, zero, suc, ℤ, unsigned_abs, Bool, true, false, List, [], ◌∷◌, ◌++◌, map, length, codes, unwrap_or, Option, Some, None}
+use Rattle.std.specs.Prelude.{ℕ, zero, suc, unsigned_abs, Bool, true, false, List, [], ◌∷◌, ◌++◌, map, length, codes, unwrap_or, Option, Some, None}
 use Rattle.std.specs.List.{range_with_len}
 use Rattle.std.specs.Option.{option_and_then, option_map, option_map_or}
 use Rattle.std.specs.Fmt.{decimal}
@@ -33,7 +33,6 @@ use Rattle.pt_ast.specs.declared.table.PartBy.TheVariants as by
 use Rattle.pt_ast.specs.declared.table.PartDef.{PartDef}
 use Rattle.pt_expr.specs.Columns.{column_named}
 use Rattle.pt_expr.specs.Values.{whole_value}
-use Rattle.pt_place.specs.Fitting.{kinds_of}
 use Rattle.pt_place.specs.Written.{columns_for_rows, places_of}
 
 -- ---- what the rows are partitioned by
