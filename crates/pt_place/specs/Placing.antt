@@ -7,10 +7,14 @@ use Rattle.pt_ast.specs.declared.table.TableDef.{TableDef}
 use Rattle.pt_ast.specs.Ranges.{range_fault}
 use Rattle.pt_expr.specs.Found.{checked}
 
--- the expression is sound, and there is a part
+-- the number of parts is one of 32 bits, and not 0
+abbrev pub IsCount : ℕ → Type 0
+IsCount count = (0 < count) × (count < 2 ^ 32)
+
+-- the expression is sound, and there are parts
 abbrev pub CanNumber : List Column → PartBy → ℕ → Type 0
-CanNumber columns (by.Hash linear expr) count = IsOk (checked columns expr false) × (0 < count)
-CanNumber columns (by.Key linear numbers) count = 0 < count
+CanNumber columns (by.Hash linear expr) count = IsOk (checked columns expr false) × IsCount count
+CanNumber columns (by.Key linear numbers) count = IsCount count
 CanNumber columns _ count = Unit {0}
 
 -- the expression is sound, bounds rise, and there is a part

@@ -1,6 +1,6 @@
 -- What is refused of a complete definition: the first check that fails, in the order of CREATE TABLE. Columns and keys, then the
 -- partitioning before the subpartitioning, then the partitions.
-use Rattle.std.specs.Prelude.{◌≡◌, ℕ, ◌*◌, Bool, false, not, ◌&&◌, ◌||◌, ◌==◌, List, [], ◌∷◌, map, length, Option, None, if◌then◌else◌}
+use Rattle.std.specs.Prelude.{◌≡◌, ℕ, ◌*◌, ◌<◌, All, Bool, false, not, ◌&&◌, ◌||◌, ◌==◌, List, [], ◌∷◌, map, length, Option, None, if◌then◌else◌}
 use Rattle.std.specs.List.{list_any}
 use Rattle.pt_value.specs.declared.value.Kind.{Kind}
 use Rattle.pt_ast.specs.declared.table.Bound.{Bound}
@@ -62,7 +62,7 @@ first_subs (part ∷ parts) = length part.subs
 
 -- a partitioned table has partitions, and a subpartitioned one subpartitions
 abbrev pub is_without_parts : PartBy → PartBy → List PartDef → Bool
-is_without_parts main sub parts = not (is_whole main) && (length parts == 0 || not (is_whole sub) && first_subs parts == 0)
+is_without_parts main sub parts = not (is_whole main) && length parts == 0 || not (is_whole sub) && first_subs parts == 0
 
 abbrev pub leaf_count : PartBy → List PartDef → ℕ
 leaf_count sub parts = length parts * (if is_whole sub then 1 else first_subs parts)
@@ -145,3 +145,22 @@ refusal_of table def = first_of (bad_items def ∷ bad_kinds table def ∷ bad_p
 -- name will do.
 abbrev pub IsValid : TableDef → Type 0
 IsValid def = (table : List ℕ) × (refusal_of table def ≡ None)
+
+-- ---- what the checks need
+
+-- the positions of columns that a partitioning lists
+abbrev pub numbers_of : PartBy → List ℕ
+numbers_of (by.RangeColumns numbers) = numbers
+numbers_of (by.ListColumns numbers) = numbers
+numbers_of (by.Key linear numbers) = numbers
+numbers_of _ = []
+
+-- each is below the number of columns
+abbrev pub AreBelow : List Column → List ℕ → Type 0
+AreBelow columns numbers = All (λ number. number < length columns) numbers
+
+-- Each column number is, as in every storable definition.
+pub record ArePlaced (def : TableDef) : Type 0 where
+  pub keys : All (λ key. AreBelow def.columns key.columns) def.keys
+  pub by : AreBelow def.columns (numbers_of def.by)
+  pub sub : AreBelow def.columns (numbers_of def.sub)

@@ -1,9 +1,8 @@
 ghost use Rattle.std.specs.Prelude.{◌≡◌, ◌&&◌, All, map, length};
 ghost use Rattle.std.specs.List.{list_any};
-ghost use Rattle.pt_ast.specs.StorableDef.{IsStorableKey};
 ghost use Rattle.pt_place.specs.Checks.{has_column, is_default_out, is_default_wrong, is_primary_rank, is_too_long, second_primary};
 ghost use Rattle.pt_place.specs.First.{in_turn};
-ghost use Rattle.pt_place.specs.Valid.{bad_column, bad_key, is_nullable_primary};
+ghost use Rattle.pt_place.specs.Valid.{AreBelow, bad_column, bad_key, is_nullable_primary};
 
 use crate::fitting::{has_column, is_in_range, is_null, is_of_kind, is_primary};
 use crate::names::{is_column, repeated};
@@ -91,7 +90,7 @@ fn is_in_primary(keys: &[KeyDef], number: usize) -> bool
 
 /// Keys, in their order.
 pub(crate) fn bad_keys(columns: &Columns, keys: &[KeyDef]) -> Option<Refusal>
-    requires { All (IsStorableKey (length columns.now)) keys.now }
+    requires { All (λ key. AreBelow columns.now key.columns) keys.now }
     ensures { result ≡ in_turn (bad_key columns.now) keys.now }
 {
     for (at, key) in keys.iter().enumerate() {
@@ -104,7 +103,7 @@ pub(crate) fn bad_keys(columns: &Columns, keys: &[KeyDef]) -> Option<Refusal>
 
 /// A key beside those before it.
 fn bad_key(columns: &Columns, before: &[KeyDef], key: &KeyDef) -> Option<Refusal>
-    requires { IsStorableKey (length columns.now) key.now }
+    requires { AreBelow columns.now key.now.columns }
     ensures { result ≡ bad_key columns.now before.now key.now }
 {
     if let Some(refusal) = repeated(columns, key.columns.items()) {

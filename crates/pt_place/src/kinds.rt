@@ -1,7 +1,6 @@
 ghost use Rattle.std.specs.Prelude.{◌≡◌};
-ghost use Rattle.pt_ast.specs.StorableDef.{IsStorableBy, IsStorableDef};
 ghost use Rattle.pt_place.specs.Checks.{bad_expr, is_by_number, is_range, is_whole, key_of_none, of_fault, sub_of_number};
-ghost use Rattle.pt_place.specs.Valid.{bad_by, bad_kinds};
+ghost use Rattle.pt_place.specs.Valid.{AreBelow, ArePlaced, bad_by, bad_kinds, numbers_of};
 
 use crate::keys::lacking_key;
 use crate::names::repeated;
@@ -12,7 +11,7 @@ use pt_value::Ident;
 
 /// What a table is partitioned by, and then subpartitioned.
 pub(crate) fn bad_kinds(table: &Ident, def: &TableDef) -> Option<Refusal>
-    requires { IsStorableDef def.now }
+    requires { ArePlaced def.now }
     ensures { result ≡ bad_kinds table.now def.now }
 {
     if let Some(refusal) = sub_of_number(table, &def.by, &def.sub) {
@@ -76,7 +75,7 @@ fn key_of_none(by: &PartBy) -> Option<Refusal>
 
 /// A column that stands twice, or what is wrong with an expression.
 fn bad_by(table: &Ident, columns: &Columns, by: &PartBy) -> Option<Refusal>
-    requires { IsStorableBy columns.now by.now }
+    requires { AreBelow columns.now (numbers_of by.now) }
     ensures { result ≡ bad_by table.now columns.now by.now }
 {
     match by {

@@ -2,6 +2,7 @@ ghost use Rattle.std.specs.Prelude.{◌≡◌, ◌<◌, All, length};
 ghost use Rattle.std.specs.Str.{str_eq_ignore_ascii_case};
 ghost use Rattle.pt_place.specs.Checks.{twice};
 ghost use Rattle.pt_place.specs.First.{in_turn};
+ghost use Rattle.pt_place.specs.Valid.{AreBelow};
 ghost use Rattle.pt_place.specs.Names.{is_among, name_at, names_at, names_of};
 
 use pt_ast::{Arg, Column, Columns, Refusal};
@@ -35,7 +36,7 @@ pub(crate) fn is_column(name: &Ident, columns: &[Column]) -> bool
 
 /// The first column of a list that stands in it before.
 pub(crate) fn repeated(columns: &Columns, numbers: &[u32]) -> Option<Refusal>
-    requires { All (λ number. number < length columns.now) numbers.now }
+    requires { AreBelow columns.now numbers.now }
     ensures { result ≡ in_turn twice (names_at columns.now numbers.now) }
 {
     for (at, number) in numbers.iter().enumerate() {
@@ -57,7 +58,7 @@ fn name_at(columns: &Columns, number: u32) -> &Ident
 
 /// Whether a name is that of one of the columns at these positions.
 fn is_listed(name: &Ident, columns: &Columns, numbers: &[u32]) -> bool
-    requires { All (λ number. number < length columns.now) numbers.now }
+    requires { AreBelow columns.now numbers.now }
     ensures { result ≡ is_among name.now (names_at columns.now numbers.now) }
 {
     for number in numbers {

@@ -1,5 +1,4 @@
 ghost use Rattle.std.specs.Prelude.{◌≡◌, ◌*◌, ◌<◌, ◌^◌, length};
-ghost use Rattle.pt_ast.specs.StorableDef.{IsStorableDef};
 ghost use Rattle.pt_place.specs.Checks.{bad_bounds, told, too_many};
 ghost use Rattle.pt_place.specs.First.{first_in};
 ghost use Rattle.pt_place.specs.Valid.{bad_parts, bad_values, first_subs, is_without_parts, leaf_count, other_subs};
@@ -14,7 +13,6 @@ use pt_value::Ident;
 
 /// How many partitions there are, then each one's VALUES, then bounds and names position by position.
 pub(crate) fn bad_parts(table: &Ident, def: &TableDef) -> Option<Refusal>
-    requires { IsStorableDef def.now }
     ensures { result ≡ bad_parts table.now def.now }
 {
     if is_without_parts(&def.by, &def.sub, def.parts.items()) {
@@ -39,7 +37,7 @@ pub(crate) fn bad_parts(table: &Ident, def: &TableDef) -> Option<Refusal>
 fn is_without_parts(by: &PartBy, sub: &PartBy, parts: &[PartDef]) -> bool
     ensures { result ≡ is_without_parts by.now sub.now parts.now }
 {
-    !is_whole(by) && (parts.is_empty() || !is_whole(sub) && first_subs(parts) == 0)
+    !is_whole(by) && parts.is_empty() || !is_whole(sub) && first_subs(parts) == 0
 }
 
 /// How many subpartitions the first partition has.

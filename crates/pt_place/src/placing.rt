@@ -1,7 +1,6 @@
 ghost use Rattle.std.specs.Prelude.{◌≡◌, ◌<◌, ◌^◌, false, length, slice_index_or, IsOk, IfSome};
 ghost use Rattle.pt_value.specs.Hashes.{key_of, key_step};
 ghost use Rattle.pt_ast.specs.Bounds.{cells_at};
-ghost use Rattle.pt_ast.specs.StorableDef.{IsStorableDef};
 ghost use Rattle.pt_expr.specs.Columns.{AreFitting};
 ghost use Rattle.pt_expr.specs.Found.{checked};
 ghost use Rattle.pt_place.specs.Place.{hashed, number_of, numbered, part_of, place_of, subs_at};
@@ -17,7 +16,6 @@ use pt_value::{Cell, Value};
 
 /// Where a row belongs, and `None` exactly where no partition takes it. It takes no memory.
 pub fn place(def: &TableDef, cells: &Cells) -> Option<Spot>
-    requires storable { IsStorableDef def.now }
     requires valid { IsValid def.now }
     requires fitting { AreFitting def.now.columns cells.now }
     ensures { result ≡ place_of def.now cells.now }
@@ -50,7 +48,7 @@ fn part_of(def: &TableDef, cells: &Cells) -> Option<usize>
             Lists::of(&def.parts).find_list(&Probe::Columns(cells, numbers))
         }
         PartBy::Whole | PartBy::Hash(_, _) | PartBy::Key(_, _) => {
-            let count = def.parts.items().len() as u32;
+            let count = def.parts.items().len();
             Some(numbered(&def.columns, &def.by, count, cells) as usize)
         }
     }
@@ -59,23 +57,26 @@ fn part_of(def: &TableDef, cells: &Cells) -> Option<usize>
 /// The subpartition of a partition.
 fn sub_of(def: &TableDef, part: usize, cells: &Cells) -> u32
     requires can { CanNumber def.now.columns def.now.sub (length (subs_at def.now.parts part)) }
-    requires few { length (subs_at def.now.parts part) < 2 ^ 32 }
     requires fitting { AreFitting def.now.columns cells.now }
     ensures { result ≡ numbered def.now.columns def.now.sub (length (subs_at def.now.parts part)) cells.now }
 {
-    let count = subs_at(def, part).len() as u32;
+    let count = subs_at(def, part).len();
     numbered(&def.columns, &def.sub, count, cells)
 }
 
 /// One of `count` under HASH and KEY, and else 0.
-fn numbered(columns: &Columns, by: &PartBy, count: u32, cells: &Cells) -> u32
+fn numbered(columns: &Columns, by: &PartBy, count: usize, cells: &Cells) -> u32
     requires can { CanNumber columns.now by.now count }
     requires fitting { AreFitting columns.now cells.now }
     ensures { result ≡ numbered columns.now by.now count cells.now }
 {
     match by {
-        PartBy::Hash(linear, expr) => hashed(*linear, number_of(columns, expr, cells), count),
-        PartBy::Key(linear, numbers) => key_part(key_of(cells, numbers), count, *linear),
+        PartBy::Hash(linear, expr) => hashed(
+            *linear,
+            number_of(columns, expr, cells),
+            count as u32,
+        ),
+        PartBy::Key(linear, numbers) => key_part(key_of(cells, numbers), count as u32, *linear),
         _ => 0,
     }
 }

@@ -1,6 +1,5 @@
 ghost use Rattle.std.specs.Prelude.{◌≡◌, IfNone};
-ghost use Rattle.pt_ast.specs.StorableDef.{IsStorableDef};
-ghost use Rattle.pt_place.specs.Valid.{IsValid, bad_items, refusal_of};
+ghost use Rattle.pt_place.specs.Valid.{ArePlaced, IsValid, bad_items, refusal_of};
 
 use crate::columns::{bad_columns, bad_keys};
 use crate::kinds::bad_kinds;
@@ -11,7 +10,7 @@ use pt_value::Ident;
 /// The first check that a table of this name and definition fails, in the order of CREATE TABLE, and `None` exactly where the
 /// definition is valid. It takes no memory, and so compares names and list values pair by pair.
 pub fn valid(table: &Ident, def: &TableDef) -> Option<Refusal>
-    requires { IsStorableDef def.now }
+    requires { ArePlaced def.now }
     ensures refusal { result ≡ refusal_of table.now def.now }
     ensures valid { IfNone result (IsValid def.now) }
 {
@@ -20,7 +19,7 @@ pub fn valid(table: &Ident, def: &TableDef) -> Option<Refusal>
 
 /// Columns and keys, what they are partitioned by, and the partitions.
 fn refusal_of(table: &Ident, def: &TableDef) -> Option<Refusal>
-    requires { IsStorableDef def.now }
+    requires { ArePlaced def.now }
     ensures { result ≡ refusal_of table.now def.now }
 {
     if let Some(refusal) = bad_items(def) {
@@ -34,7 +33,7 @@ fn refusal_of(table: &Ident, def: &TableDef) -> Option<Refusal>
 
 /// Columns, and then keys.
 fn bad_items(def: &TableDef) -> Option<Refusal>
-    requires { IsStorableDef def.now }
+    requires { ArePlaced def.now }
     ensures { result ≡ bad_items def.now }
 {
     if let Some(refusal) = bad_columns(def.keys.items(), def.columns.items()) {
