@@ -1,0 +1,7 @@
+use Rattle.std.proofs.Common.{◌≡◌, drop}
+use Rattle.pt_place.specs.First.{first_in}
+use Rattle.pt_place.specs.Lacking.{lacks_unique}
+use Rattle.pt_place.proofs.keys.lacking_unique.Given as goal
+
+abbrev pub invariant-loop-key : goal.invariant-loop-key
+invariant-loop-key l = first_in (lacks_unique l.def) (drop l.key-index l.keys) ≡ first_in (lacks_unique l.def) l.keys

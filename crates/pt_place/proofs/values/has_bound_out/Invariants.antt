@@ -1,0 +1,7 @@
+use Rattle.std.proofs.Common.{◌≡◌, drop}
+use Rattle.pt_place.specs.Fitting.{kinds_of}
+use Rattle.pt_place.specs.Valid.{has_bound, is_bound_out}
+use Rattle.pt_place.proofs.values.has_bound_out.Given as goal
+
+abbrev pub invariant-loop-at : goal.invariant-loop-at
+invariant-loop-at l = has_bound is_bound_out (drop l.at (kinds_of l.def.columns l.def.by)) (drop l.at l.tuple) ≡ has_bound is_bound_out (kinds_of l.def.columns l.def.by) l.tuple

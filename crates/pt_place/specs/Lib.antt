@@ -1,0 +1,12 @@
+pub mod First
+pub mod Names
+pub mod Fitting
+pub mod Checks
+pub mod Place
+pub mod Placing
+pub mod Valid
+pub mod Lacking
+pub mod Used
+pub mod Written
+pub mod WrittenParts
+pub mod Complete

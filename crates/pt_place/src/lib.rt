@@ -1,0 +1,27 @@
+//! What the text of CREATE TABLE means, which definitions a table may have, and where a row belongs.
+//!
+//! - `place` gives the spot of a row, by the partitioning and then by the subpartitioning (`place_of`).
+//! - `leaf` gives the name of a spot (`leaf_of`), and `in_set` tells whether a list of names has it (`is_in_set`).
+//! - `valid` gives the first check that a definition fails, in the order of CREATE TABLE (`refusal_of`).
+//! - What a text means, or what is refused of it, is `complete_of`: all names, numbers and constants are worked out.
+//!
+//! None of the calls takes memory. It stands on `pt_expr`, `pt_bounds`, `pt_hash`, `pt_ast`, `pt_value` and `pt_plain`.
+#![tactic(auto)]
+
+mod bounds;
+mod columns;
+mod fitting;
+mod keys;
+mod kinds;
+mod names;
+mod part_names;
+mod parts;
+mod placing;
+mod spot;
+mod used;
+mod validity;
+mod values;
+
+pub use placing::place;
+pub use spot::{in_set, leaf};
+pub use validity::valid;
