@@ -41,6 +41,14 @@ impl<'a> Cursor<'a> {
         self.bytes.get(at).copied()
     }
 
+    /// The number of the two bytes from a place on. `None` exactly where fewer are left. It takes no memory.
+    pub fn u16_at(&self, at: usize) -> Option<u16>
+        ensures { result ≡ option_map number_of (part_at self.now at 2) }
+    {
+        let part = self.slice_at(at, 2)?;
+        Some(LittleEndian::read_u16(part))
+    }
+
     /// The number of the four bytes from a place on. `None` exactly where fewer are left. It takes no memory.
     pub fn u32_at(&self, at: usize) -> Option<u32>
         ensures { result ≡ option_map number_of (part_at self.now at 4) }

@@ -12,6 +12,16 @@ pub fn put_u8(out: &mut Vec<u8>, v: u8) -> Result<(), AllocError>
     put_bytes(out, &[v])
 }
 
+/// Appends a number in two bytes. Want of memory leaves `out` as it was.
+pub fn put_u16(out: &mut Vec<u8>, v: u16) -> Result<(), AllocError>
+    ensures ok { OnOk result (out.new.items ≡ out.old.items ++ le_bytes 2 v) }
+    ensures err { OnErr result (out.new.items ≡ out.old.items) }
+{
+    let mut bytes = [0u8; 2];
+    LittleEndian::write_u16(&mut bytes, v);
+    put_bytes(out, &bytes)
+}
+
 /// Appends a number in four bytes. Want of memory leaves `out` as it was.
 pub fn put_u32(out: &mut Vec<u8>, v: u32) -> Result<(), AllocError>
     ensures ok { OnOk result (out.new.items ≡ out.old.items ++ le_bytes 4 v) }
