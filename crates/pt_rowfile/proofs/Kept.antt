@@ -1,17 +1,15 @@
 -- The rows as a map from serials to cells: what the map does, the rows do.
-use Rattle.std.proofs.Common.{◌≡◌, ℕ, ◌<◌, Bool, true, false, not, ◌&&◌, ◌||◌, cond, ◌==◌, List, [], ◌∷◌, map, Option, Some, None, is_some, refl, sym, ap, ap₂, ◌∙◌, subst, Ordering, Less, Equal, Greater}
+use Rattle.std.proofs.Common.{◌≡◌, ℕ, Bool, true, false, not, ◌&&◌, ◌||◌, cond, ◌==◌, List, [], ◌∷◌, Option, Some, None, is_some, refl, sym, ap, ap₂, ◌∙◌, subst, Ordering, Less, Equal, Greater}
 use Rattle.std.specs.Prelude.{nat_lt}
 use Rattle.std.specs.Ordering.{is_eq, match_ordering, nat_cmp}
 use Rattle.std.specs.Cmp.{nat_cmp_total}
 use Rattle.std.specs.FinMap.{nat_cmp-IsAntisymmetric}
 use Rattle.std.specs.Map.{lookup, remove_entry}
 use Rattle.std.specs.BTreeMap.{insert_entry, is_at}
-use Rattle.std.specs.List.{list_any}
 use Rattle.std.proofs.lemmas.Cmp.{tied_itself}
 use Rattle.std.proofs.lemmas.Bool.Decides.{Decides-eqb}
 use Rattle.pt_value.specs.declared.value.Value.{Value}
 use Rattle.pt_ast.specs.declared.database.Row.{Row}
-use Rattle.pt_rowfile.specs.declared.record.Record.{Record}
 use Rattle.pt_rowfile.specs.declared.record.Record.TheVariants.{Put, Delete}
 use Rattle.pt_rowfile.specs.Rows.{after, has_row, is_serial, with_row, without_row}
 use Rattle.pt_rowfile.specs.Kept.{row_of, rows_in}

@@ -1,5 +1,5 @@
 -- Records that are written part by part.
-use Rattle.std.proofs.Common.{◌≡◌, ℕ, ◌+◌, ◌/◌, ◌%◌, ◌≤◌, ℤ, List, [], ◌∷◌, ◌++◌, length, refl, sym, ap, ap₂, ◌∙◌, subst, arith, append_assoc, length-append}
+use Rattle.std.proofs.Common.{◌≡◌, ℕ, ◌+◌, ◌/◌, ◌%◌, ◌≤◌, ℤ, List, [], ◌∷◌, ◌++◌, length, sym, ap, ◌∙◌, subst, arith, append_assoc, length-append}
 use Rattle.std.specs.List.{flat_map}
 use Rattle.std.specs.Int.{w32, w64, cast_unsigned}
 use Rattle.pt_value.specs.declared.value.Value.{Value}
@@ -9,7 +9,7 @@ use Rattle.pt_bytes.specs.Numbers.{le_bytes}
 use Rattle.pt_bytes.proofs.Numbers.{length-le_bytes}
 use Rattle.pt_rowfile.specs.declared.record.Record.TheVariants.{Put, Delete}
 use Rattle.pt_rowfile.specs.Cells.{cell_bytes}
-use Rattle.pt_rowfile.specs.Records.{body_of, cells_bytes, record_bytes}
+use Rattle.pt_rowfile.specs.Records.{record_bytes}
 
 abbrev joined : List ℕ → List ℕ → List ℕ
 joined a b = a ++ b

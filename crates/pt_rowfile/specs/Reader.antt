@@ -1,5 +1,5 @@
 -- The reader, as functions on bytes in the shape of the code. What it reads is what is spelled.
-use Rattle.std.specs.Prelude.{ℕ, zero, suc, ◌==◌, nat_eq, nat_le, if◌then◌else◌, List, [], ◌∷◌, ◌++◌, length, take, drop, Option, Some, None}
+use Rattle.std.specs.Prelude.{ℕ, zero, suc, ◌==◌, nat_eq, nat_le, if◌then◌else◌, List, [], ◌∷◌, length, take, drop, Option, Some, None}
 use Rattle.std.specs.Int.{w32, w64, cast_signed}
 use Rattle.std.specs.Option.{option_map, option_and_then}
 use Rattle.pt_value.specs.declared.value.Value.{Value}

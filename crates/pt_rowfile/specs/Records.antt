@@ -1,8 +1,7 @@
 -- The records of a row file. docs/FILES.md, "Row files".
-use Rattle.std.specs.Prelude.{◌≡◌, ℕ, ◌<◌, ◌^◌, List, ◌∷◌, ◌++◌, length}
+use Rattle.std.specs.Prelude.{ℕ, ◌<◌, ◌^◌, List, ◌∷◌, ◌++◌, length}
 use Rattle.std.specs.List.{flat_map, AllByRecursion}
 use Rattle.pt_value.specs.declared.value.Value.{Value}
-use Rattle.pt_ast.specs.declared.database.Row.{Row}
 use Rattle.pt_bytes.specs.Numbers.{le_bytes}
 use Rattle.pt_rowfile.specs.declared.record.Record.{Record}
 use Rattle.pt_rowfile.specs.declared.record.Record.TheVariants.{Put, Delete}

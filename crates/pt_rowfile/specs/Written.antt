@@ -1,5 +1,5 @@
 -- Which rows are written.
-use Rattle.std.specs.Prelude.{◌≡◌, ℕ, ◌≤◌, true, List, length, All}
+use Rattle.std.specs.Prelude.{◌≡◌, ◌≤◌, true, List, length, All}
 use Rattle.pt_value.specs.declared.value.Value.{Value}
 use Rattle.pt_value.specs.declared.value.Value.TheVariants.{Bytes}
 use Rattle.pt_ast.specs.declared.database.Row.{Row}

@@ -1,4 +1,4 @@
-use Rattle.std.proofs.Common.{◌≡◌, ◌≤◌, ◌-◌, ℕ, List, length, Some, None, sym, ap, ◌∙◌}
+use Rattle.std.proofs.Common.{◌≡◌, Some, None, sym, ◌∙◌}
 use Rattle.pt_rowfile.specs.Counter.{last_number}
 use Rattle.pt_rowfile.proofs.Parts.{one_some}
 use Rattle.pt_rowfile.proofs.Taken.{last_part}

@@ -1,7 +1,7 @@
-use Rattle.std.proofs.Common.{◌≡◌, ◌<◌, ap, ◌∙◌, rules}
+use Rattle.std.proofs.Common.{◌<◌, ap, ◌∙◌, rules}
 use Rattle.std.specs.Option.{option_map}
 use Rattle.pt_rowfile.specs.Reader.{cell_at, cells_at}
-use Rattle.pt_rowfile.proofs.Cells.{behind, cells_begin, cells_end, cells_fail, cells_preserved}
+use Rattle.pt_rowfile.proofs.Cells.{behind, cells_end, cells_fail, cells_preserved}
 use Rattle.pt_rowfile.proofs.Taken.{takes_none, takes_some}
 use Rattle.pt_rowfile.proofs.source.Source.cells.Goals as goal
 
