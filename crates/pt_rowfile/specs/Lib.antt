@@ -1,0 +1,11 @@
+pub mod Cells
+pub mod Records
+pub mod Rows
+pub mod Written
+pub mod Counter
+pub mod Laws
+pub mod Faults
+pub mod Reader
+pub mod Taking
+pub mod Kept
+pub mod SoFar
