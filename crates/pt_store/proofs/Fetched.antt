@@ -35,17 +35,6 @@ are_within bytes [] (f ∷ files) are = absurd are
 are_within bytes (e ∷ entries) [] are = absurd are
 are_within bytes (e ∷ entries) (f ∷ files) are = All-cons (λ entry. entry.place + entry.length ≤ length bytes) e entries are.0.within (are_within bytes entries files are.1)
 
--- # One entry
-
--- what is read of a file that is there, or nothing of one that needn't be
-pub range_there : (whole : Option (List ℕ)) (place n : ℕ) → n ≢ 0 → place + n ≤ length (bytes_of whole) → IsSomeAnd whole (λ file. place + n ≤ length file)
-range_there None place n some within = absurd (some (omega arith))
-range_there (Some file) place n some within = within
-
-pub range_read : (whole : Option (List ℕ)) (place n : ℕ) (bytes : List ℕ) → IsSomeAnd whole (λ file. bytes ≡ take n (drop place file)) → bytes ≡ take n (drop place (bytes_of whole))
-range_read (Some file) place n bytes is = is
-range_read None place n bytes is = absurd is
-
 -- # The loop
 
 -- a file behind all names goes to the end

@@ -101,14 +101,6 @@ found entries query None is held =
     let none : None ≡ length_in (map size_of entries) query = (ap (option_map (λ e. e.length)) is ∙ found_length entries query) in
     rw (← none) at held
 
-pub whole_has : (whole : Option (List ℕ)) (place n : ℕ) → n ≢ 0 → place + n ≤ length (bytes_of whole) → IsSomeAnd whole (λ file. place + n ≤ length file)
-whole_has None place n some within = absurd (some (omega arith))
-whole_has (Some file) place n some within = within
-
-pub whole_gives : (whole : Option (List ℕ)) (place n : ℕ) (bytes : List ℕ) → IsSomeAnd whole (λ file. bytes ≡ take n (drop place file)) → take n (drop place (bytes_of whole)) ≡ bytes
-whole_gives (Some file) place n bytes is = sym is
-whole_gives None place n bytes is = absurd is
-
 pub found_is : (entries lent : List Entry) (query : List ℕ) (o : Option (Bor Entry)) (e : Bor Entry) → lent ≡ entries → option_copied o ≡ find (λ x. bytes_eq x.name query) lent → o ≡ Some e
     → find (λ x. bytes_eq x.name query) entries ≡ Some e.now
 found_is entries lent query o e same is at = ap (find (λ x. bytes_eq x.name query)) (sym same) ∙ sym is ∙ ap option_copied at
@@ -117,11 +109,8 @@ module _ (store : Store) (files : FileList) (w : World) (is : IsStore store file
   stands : (e.place + e.length ≤ length (bytes_of (shown w.now.fs whole_name))) × (by_name files query ≡ Some (take e.length (drop e.place (bytes_of (shown w.now.fs whole_name)))))
   stands = entry_bytes (bytes_of (shown w.now.fs whole_name)) store.entries files query e is.here at
 
-  pub reads_nothing : e.length ≡ 0 → by_name files query ≡ Some []
-  reads_nothing none = stands.1 ∙ ap (λ n. Some (take n (drop e.place (bytes_of (shown w.now.fs whole_name))))) none
+  pub entry_within : e.place + e.length ≤ length (bytes_of (shown w.now.fs whole_name))
+  entry_within = stands.0
 
-  pub reads_within : e.length ≢ 0 → IsSomeAnd (shown w.now.fs whole_name) (λ file. e.place + e.length ≤ length file)
-  reads_within some = whole_has (shown w.now.fs whole_name) e.place e.length some stands.0
-
-  pub reads_bytes : (bytes : List ℕ) → IsSomeAnd (shown w.now.fs whole_name) (λ file. bytes ≡ take e.length (drop e.place file)) → by_name files query ≡ Some bytes
-  reads_bytes bytes read = stands.1 ∙ ap Some (whole_gives (shown w.now.fs whole_name) e.place e.length bytes read)
+  pub reads_bytes : (bytes : List ℕ) → bytes ≡ take e.length (drop e.place (bytes_of (shown w.now.fs whole_name))) → by_name files query ≡ Some bytes
+  reads_bytes bytes read = stands.1 ∙ ap Some (sym read)

@@ -12,8 +12,9 @@ ghost use Rattle.pt_store.specs.Entries.{AreInOrder, length_in};
 
 use crate::Stop;
 use crate::changes::{appended, reshaped};
-use crate::disk::{clear_shadow, read_entries, read_range};
+use crate::disk::{clear_shadow, read_entries};
 use crate::entry::{Entry, entry_of, length_of, name_of};
+use crate::fetch::read_entry;
 use crate::serials::add_serials;
 use crate::spell::spell;
 use crate::swap::replace_whole;
@@ -24,8 +25,8 @@ use std::alloc::Global;
 
 /// The map that a directory holds in one file: the names of its files, with their lengths. Their bytes stay on the disk.
 ///
-/// A store is live until a call that changes the map answers `Fault`. From then on it is of no use: what the directory holds is the
-/// old map or the new one, and only another `attach` tells which.
+/// A store is live until a call that changes the map answers `Fault`. From then on it is of no use: what the directory holds
+/// is the old map or the new one, and only another `attach` tells which.
 #[derive(Debug, Drop)]
 pub struct Store {
     alloc: Global,
@@ -105,10 +106,7 @@ impl Store {
         ensures counts { IsCounted (H.counts host.old) (H.counts host.new) result }
     {
         let entry = entry_of(self.entries.items(), name).unwrap();
-        if entry.length == 0 {
-            return Ok(Vec::new(self.alloc));
-        }
-        let bytes = read_range(self.alloc, host, entry.place, entry.length)?;
+        let bytes = read_entry(self.alloc, host, entry)?;
         Ok(bytes)
     }
 

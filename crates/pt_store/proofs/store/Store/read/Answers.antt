@@ -1,27 +1,18 @@
-use Rattle.std.proofs.Common.{◌∙◌, ap, sym, Some}
-use Rattle.pt_store.proofs.Kept.{found, found_is, reads_nothing, reads_within, reads_bytes}
-use Rattle.pt_store.proofs.Steps.{no_look, look_here}
+use Rattle.pt_store.proofs.Kept.{found, found_is, entry_within, reads_bytes}
+use Rattle.pt_store.proofs.Steps.{look_here}
 use Rattle.pt_store.proofs.store.Store.read.Goals as goal
 
 pub unwrap-entry-requires : goal.unwrap-entry-requires
 unwrap-entry-requires g c = found c.args.self.now.entries c.args.name.now _ (rw c.items.ensures at c.entry_of.ensures) c.requires.held
 
-pub returns-then-entry-eq0-clause-bytes : goal.returns-then-entry-eq0-clause-bytes
-returns-then-entry-eq0-clause-bytes g c = λ tells files store.
-    reads_nothing _ files _ store c.args.name.now c.unwrap-entry.result.now (found_is _ _ _ _ _ c.items.ensures c.entry_of.ensures c.unwrap-entry.ensures) c.if-entry-eq0.true
-    ∙ ap Some (sym c.new.ensures.items)
-
-pub read_range-requires : goal.read_range-requires
-read_range-requires g c = λ tells.
+pub read_entry-requires : goal.read_entry-requires
+read_entry-requires g c = λ tells.
     let s = c.requires.stands tells in
-    reads_within _ s.0 _ s.1 c.args.name.now c.unwrap-entry.result.now (found_is _ _ _ _ _ c.items.ensures c.entry_of.ensures c.unwrap-entry.ensures) c.if-entry-eq0.false
+    entry_within _ s.0 _ s.1 c.args.name.now c.unwrap-entry.result.now (found_is _ _ _ _ _ c.items.ensures c.entry_of.ensures c.unwrap-entry.ensures)
 
 pub returns-clause-bytes : goal.returns-clause-bytes
 returns-clause-bytes g c = λ tells files store.
     reads_bytes _ files _ store c.args.name.now c.unwrap-entry.result.now (found_is _ _ _ _ _ c.items.ensures c.entry_of.ensures c.unwrap-entry.ensures) _ (c.in_ok-bytes.ensures.bytes tells)
-
-pub returns-then-entry-eq0-clause-told : goal.returns-then-entry-eq0-clause-told
-returns-then-entry-eq0-clause-told g c = λ tells files store. no_look _ files _ store
 
 pub returns-in_err-bytes-clause-told : goal.returns-in_err-bytes-clause-told
 returns-in_err-bytes-clause-told g c = λ tells files store. look_here _ files _ _ (c.in_err-bytes.ensures.looks tells) store
