@@ -34,13 +34,22 @@ widened k ts = Some (k, (optional (in_parens numbered) ts).1)
 unfoldable pub binary_chars : ℤ → Reader KindSpec
 binary_chars n ts = and_then (charset ts) (λ u us. mapped (λ v. kind.Binary n) (worded keyword.Binary us))
 
+abbrev pub binary : Reader KindSpec
+binary ts = mapped kind.Binary (in_parens numbered ts)
+
+abbrev pub chars : Reader KindSpec
+chars ts = and_then (in_parens numbered ts) binary_chars
+
+abbrev pub date_kind : Reader KindSpec
+date_kind ts = mapped (λ u. kind.Date) (worded keyword.Date ts)
+
 unfoldable pub kinded : Reader KindSpec
 kinded (Fixed (Other word.Int) ∷ ts) = widened kind.Int ts
 kinded (Fixed (Other word.Integer) ∷ ts) = widened kind.Int ts
 kinded (Fixed (Other word.BigInt) ∷ ts) = widened kind.BigInt ts
-kinded (Fixed (Other word.VarBinary) ∷ ts) = mapped kind.Binary (in_parens numbered ts)
-kinded (Fixed (Other word.VarChar) ∷ ts) = and_then (in_parens numbered ts) binary_chars
-kinded ts = mapped (λ u. kind.Date) (worded keyword.Date ts)
+kinded (Fixed (Other word.VarBinary) ∷ ts) = binary ts
+kinded (Fixed (Other word.VarChar) ∷ ts) = chars ts
+kinded ts = date_kind ts
 
 -- ---- options of columns
 
@@ -51,6 +60,9 @@ unfoldable pub dated : Reader Literal
 dated (Text bytes ∷ ts) = Some (literal.Date (day_of bytes), ts)
 dated _ = None
 
+abbrev pub day : Reader Literal
+day ts = and_then (worded keyword.Date ts) (λ u us. dated us)
+
 unfoldable pub constant : Reader Literal
 constant (Number n ∷ ts) = Some (literal.Number false n, ts)
 constant (Fixed Plus ∷ ts) = signed false ts
@@ -58,7 +70,7 @@ constant (Fixed Minus ∷ ts) = signed true ts
 constant (Text bytes ∷ ts) = Some (literal.Text bytes, ts)
 constant (Hex bytes ∷ ts) = Some (literal.Hex bytes, ts)
 constant (Fixed Null ∷ ts) = Some (literal.Null, ts)
-constant ts = and_then (worded keyword.Date ts) (λ u us. dated us)
+constant ts = day ts
 
 unfoldable pub past_key : Reader (Unit {0})
 past_key (Fixed (Other word.Key) ∷ ts) = Some (tt, ts)
@@ -72,14 +84,26 @@ unfoldable pub past_text : Reader (Unit {0})
 past_text (Text bytes ∷ ts) = Some (tt, ts)
 past_text _ = None
 
+abbrev pub not_null : Reader (Option ColOption)
+not_null ts = mapped (λ u. Some option.NotNull) (past_null ts)
+
+abbrev pub default : Reader (Option ColOption)
+default ts = mapped (λ x. Some (option.Default x)) (constant ts)
+
+abbrev pub primary : Reader (Option ColOption)
+primary ts = mapped (λ u. Some option.Primary) (past_key ts)
+
+abbrev pub remark : Reader (Option ColOption)
+remark ts = and_then (worded keyword.Comment ts) (λ u us. mapped (λ v. None) (past_text us))
+
 -- the option, which a comment is not
 unfoldable pub col_option : Reader (Option ColOption)
-col_option (Fixed Not ∷ ts) = mapped (λ u. Some option.NotNull) (past_null ts)
+col_option (Fixed Not ∷ ts) = not_null ts
 col_option (Fixed Null ∷ ts) = Some (Some option.Null, ts)
-col_option (Fixed (Other word.Default) ∷ ts) = mapped (λ x. Some (option.Default x)) (constant ts)
-col_option (Fixed (Other word.Primary) ∷ ts) = mapped (λ u. Some option.Primary) (past_key ts)
+col_option (Fixed (Other word.Default) ∷ ts) = default ts
+col_option (Fixed (Other word.Primary) ∷ ts) = primary ts
 col_option (Fixed (Other word.Unique) ∷ ts) = Some (Some option.Unique, (optional past_key ts).1)
-col_option ts = and_then (worded keyword.Comment ts) (λ u us. mapped (λ v. None) (past_text us))
+col_option ts = remark ts
 
 abbrev pub col_options : Symbols → List ColOption × Symbols
 col_options ts = let more = many col_option ts in (kept more.0, more.1)
@@ -109,6 +133,9 @@ table_charset ts = and_then (charset ts) (λ u us. equals_name us)
 unfoldable pub part_option : Reader (Unit {0})
 part_option ts = or_else (engine ts) (comment ts)
 
+abbrev pub undefaulted : Reader (Unit {0})
+undefaulted ts = or_else (part_option ts) (table_charset ts)
+
 unfoldable pub table_option : Reader (Unit {0})
 table_option (Fixed (Other word.Default) ∷ ts) = table_charset ts
-table_option ts = or_else (part_option ts) (table_charset ts)
+table_option ts = undefaulted ts

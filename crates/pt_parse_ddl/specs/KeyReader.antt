@@ -26,6 +26,10 @@ keyed_by rank p = mapped (item.Key rank p.0) (tuple named p.1)
 unfoldable pub keyed : Rank → Reader Item
 keyed rank ts = keyed_by rank (optional named ts)
 
+-- [KEY | INDEX] and the key
+abbrev pub unique : Reader Item
+unique ts = keyed rank.Unique (optional past_index ts).1
+
 unfoldable pub primary_key : Reader Item
 primary_key ts = and_then (past_key ts) (λ u us. mapped (item.Key rank.Primary None) (tuple named us))
 
@@ -37,7 +41,7 @@ column ts = and_then (named ts) (λ name us. and_then (kinded us) (with_options 
 
 unfoldable pub table_item : Reader Item
 table_item (Fixed (Other word.Primary) ∷ ts) = primary_key ts
-table_item (Fixed (Other word.Unique) ∷ ts) = keyed rank.Unique (optional past_index ts).1
+table_item (Fixed (Other word.Unique) ∷ ts) = unique ts
 table_item (Fixed (Other word.Key) ∷ ts) = keyed rank.Plain ts
 table_item (Fixed (Other word.Index) ∷ ts) = keyed rank.Plain ts
 table_item ts = column ts

@@ -41,6 +41,8 @@ pub data IsTable : Symbols → TableSpec → Symbols → Type 0 where
       → AreRepeated IsTableOption us skipped vs → IsOptional IsPartBy vs spec rest → IsTable ts (record { items = items; «by» = spec }) rest
 
 pub data IsStmt : Symbols → Stmt → Symbols → Type 0 where
+  create : {ts us vs rest : Symbols} {only_new : Bool} {name : List ℕ} {spec : TableSpec} → IsIfNotExists ts only_new us → IsName us name vs
+      → IsTable vs spec rest → IsStmt (the word.Create ∷ the word.Table ∷ ts) (stmt.Create only_new name spec) rest
   like : {ts us vs rest : Symbols} {only_new : Bool} {name other : List ℕ} → IsIfNotExists ts only_new us → IsName us name (the word.Like ∷ vs)
       → IsName vs other rest → IsStmt (the word.Create ∷ the word.Table ∷ ts) (stmt.Like only_new name other) rest
   drop : {ts us rest : Symbols} {if_there : Bool} {name : List ℕ} → IsIfExists ts if_there us → IsName us name rest

@@ -1,9 +1,10 @@
 -- Steps of reading, as functions on lists of symbols. (In the shape of the code.)
 use Rattle.std.specs.Prelude.{◌≡◌, ◌≤◌, ℕ, ℤ, List, [], ◌∷◌, length, drop, Option, Some, None, if◌then◌else◌}
+use Rattle.pt_ast.specs.declared.tree.Expr.{Expr}
 use Rattle.pt_parse_expr.specs.declared.alphabet.Mark.TheVariants.{Open, Comma}
 use Rattle.pt_parse_expr.specs.declared.alphabet.Symbol.TheVariants.{Fixed, Word, Quoted, Number}
 use Rattle.pt_parse_expr.specs.Grammar.{Symbols}
-use Rattle.pt_parse_expr.specs.Reader.{Reading, Reader, many, closed}
+use Rattle.pt_parse_expr.specs.Reader.{Reading, Reader, many, closed, sum, found}
 use Rattle.pt_parse_ddl.specs.declared.words.Keyword.{Keyword}
 use Rattle.pt_parse_ddl.specs.Words.{is_word}
 
@@ -63,6 +64,12 @@ numbered _ = None
 unfoldable pub worded : Keyword → Reader (Unit {0})
 worded k (Word name ∷ ts) = if is_word k name then Some (tt, ts) else None
 worded k _ = None
+
+-- ---- expressions
+
+-- as deep as they may nest
+unfoldable pub whole : Reader Expr
+whole ts = sum (found 64) ts
 
 -- ---- what functions answer that make nothing
 

@@ -8,8 +8,14 @@
 //! It stands on `pt_parse_expr` for symbols and expressions, and on `pt_ast` for the trees.
 #![tactic(auto)]
 
+mod columns;
+mod keys;
 mod laws;
+mod options;
+mod partitionings;
+mod partitions;
 mod piece;
+mod rules;
 mod statements;
 mod words;
 

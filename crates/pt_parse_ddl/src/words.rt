@@ -5,8 +5,10 @@ ghost use Rattle.pt_parse_ddl.specs.Steps as spec;
 ghost use Rattle.pt_parse_ddl.specs.Steps.{Passes, PassesTo};
 ghost use Rattle.pt_parse_ddl.specs.Words as grammar;
 
-use pt_parse_expr::{Symbol, peek};
+use crate::rules::Rule;
+use pt_parse_expr::{Reading, Symbol, peek};
 use pt_value::Ident;
+use std::alloc::Global;
 
 /// A word of definitions that is reserved nowhere: it may be a name as well.
 #[derive(Clone, Copy)]
@@ -93,5 +95,27 @@ pub(crate) fn number(symbols: &[Symbol], at: usize) -> Option<(i128, usize)>
     match peek(symbols, at) {
         Some(Symbol::Number(n)) => Some((*n, at + 1)),
         _ => None,
+    }
+}
+
+/// A number.
+pub(crate) struct NumberRule;
+
+impl Rule<i128> for NumberRule {
+    ghost reading = { spec.numbered };
+
+    fn read(_alloc: Global, symbols: &[Symbol], at: usize) -> Reading<i128> {
+        Ok(number(symbols, at))
+    }
+}
+
+/// A name.
+pub(crate) struct NameRule;
+
+impl Rule<Ident> for NameRule {
+    ghost reading = { spec.named };
+
+    fn read(_alloc: Global, symbols: &[Symbol], at: usize) -> Reading<Ident> {
+        Ok(name(symbols, at))
     }
 }
