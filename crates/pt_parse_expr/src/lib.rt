@@ -36,3 +36,4 @@ pub use laws::one_reading;
 pub use limits::{deep, long};
 pub use parse::{cond, expr};
 pub use readers::{read_cond, read_expr};
+pub use source::{Reading, beside, closed, peek};

@@ -6,10 +6,10 @@ use crate::alphabet::{Mark, Symbol};
 use std::alloc::AllocError;
 
 /// What was read, with the place after it, or `None`.
-pub(crate) type Reading<T> = Result<Option<(T, usize)>, AllocError>;
+pub type Reading<T> = Result<Option<(T, usize)>, AllocError>;
 
 /// The symbol at a place. `None` at the end.
-pub(crate) fn peek(symbols: &[Symbol], at: usize) -> Option<&Symbol>
+pub fn peek(symbols: &[Symbol], at: usize) -> Option<&Symbol>
     ensures first { Peeks (lent result) (drop at symbols.now) (drop (at + 1) symbols.now) }
     ensures within { IsTrue (is_some result) → at < length symbols.now }
 {
@@ -25,7 +25,7 @@ pub(crate) fn closes(symbols: &[Symbol], at: usize) -> bool
 }
 
 /// What was read in parentheses, where a closing one stands behind it.
-pub(crate) fn closed<T: Drop>(symbols: &[Symbol], inside: T, at: usize) -> Option<(T, usize)>
+pub fn closed<T: Drop>(symbols: &[Symbol], inside: T, at: usize) -> Option<(T, usize)>
     requires { at ≤ length symbols.now }
     ensures reads { ReadsSome symbols.now result (close inside (drop at symbols.now)) }
     ensures place { ReachesSome (at + 1) symbols.now result }
@@ -38,10 +38,7 @@ pub(crate) fn closed<T: Drop>(symbols: &[Symbol], inside: T, at: usize) -> Optio
 
 /// What was read before together with what was read then, unless memory ran out. A tree that lives across a `?` is let go there,
 /// which is dear to prove of each function that does so; here it is proved once, of any type.
-pub(crate) fn beside<T: Drop, U>(
-    before: T,
-    then: Result<U, AllocError>,
-) -> Result<(T, U), AllocError>
+pub fn beside<T: Drop, U>(before: T, then: Result<U, AllocError>) -> Result<(T, U), AllocError>
     ensures before { IfOk result (λ p. p.0 ≡ before) }
     ensures then { IfOk result (λ p. then ≡ Ok p.1) }
 {

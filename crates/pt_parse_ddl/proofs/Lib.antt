@@ -1,0 +1,11 @@
+pub mod After
+pub mod Sounding
+pub mod Exact
+pub mod Turns
+pub mod OfColumns
+pub mod OfKeys
+pub mod OfPartitionings
+pub mod OfPartitions
+pub mod OfStatements
+pub mod Whole
+pub mod Storing

@@ -1,0 +1,12 @@
+pub mod Words
+pub mod Lists
+pub mod Columns
+pub mod Keys
+pub mod Partitioning
+pub mod Statements
+pub mod Spelling
+pub mod Steps
+pub mod ColumnReader
+pub mod KeyReader
+pub mod PartReader
+pub mod Reader

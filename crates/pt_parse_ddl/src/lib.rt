@@ -1,0 +1,23 @@
+//! What tokens spell as a definition: CREATE TABLE, CREATE TABLE LIKE, DROP TABLE and SHOW CREATE TABLE.
+//!
+//! - The grammar is a relation with one case for each right side (`IsStmt`), over the symbols of `pt_parse_expr`.
+//! - `parse` gives the statement that all tokens spell (`IsReading`), and refuses exactly where there is none (`IsRefused`): first
+//!   for its depth, then for a long name, then for its syntax.
+//! - `one_statement` is the theorem that no symbols spell two statements.
+//!
+//! It stands on `pt_parse_expr` for symbols and expressions, and on `pt_ast` for the trees.
+#![tactic(auto)]
+
+mod columns;
+mod keys;
+mod laws;
+mod options;
+mod partitionings;
+mod partitions;
+mod piece;
+mod rules;
+mod statements;
+mod words;
+
+pub use laws::one_statement;
+pub use piece::parse;
