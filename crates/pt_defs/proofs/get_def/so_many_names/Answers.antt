@@ -1,0 +1,12 @@
+use Rattle.pt_defs.specs.Reading.{name_at}
+use Rattle.pt_defs.proofs.Loops.{goes_on, ends, is_done}
+use Rattle.pt_defs.proofs.get_def.so_many_names.Goals as goal
+
+pub returns-in-Err : goal.returns-in-Err
+returns-in-Err c = ends name_at c.loop.items c.args.count c.loop.counter c.loop.rest.now _ c.in-Err.stop c.loop-test.true c.in-Err.ensures c.loop.invariant
+
+pub loop-preserved : goal.loop-preserved
+loop-preserved c = goes_on name_at c.loop.items c.args.count c.loop.counter c.loop.rest.now _ c.in-Ok.front.0 c.in-Ok.front.1.now _ c.loop-test.true c.in-Ok.ensures c.loop.invariant c.in_ok-push.ensures.ok
+
+pub returns : goal.returns
+returns c = is_done name_at c.loop.items c.args.count c.loop.counter c.loop.rest.now _ c.loop-test.false c.loop.invariant

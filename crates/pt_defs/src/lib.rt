@@ -1,0 +1,30 @@
+//! Definitions of tables as bytes, both ways.
+//!
+//! - `def_bytes` writes the one spelling of a definition (`Spells` of `specs/Spelling.antt`).
+//! - `def_of_bytes` reads it, field by field in the order of the file, and tells the place of the first field that can't be read
+//!   (`def_at` of `specs/Reading.antt`).
+//!
+//! Writing and reading take memory in proportion to the definition. It stands on `pt_ast`, and on `pt_bytes` for numbers.
+#![tactic(auto)]
+
+/// What is read, or the stop handed on. The borrow checker doesn't cover `?` at a value that holds a name beside a reference.
+macro_rules! front {
+    ($read:expr) => {
+        match $read {
+            Ok(front) => front,
+            Err(stop) => return Err(stop),
+        }
+    };
+}
+
+mod fault;
+mod get_def;
+mod get_expr;
+mod get_item;
+mod put_def;
+mod put_expr;
+mod put_item;
+
+pub use fault::DefRead;
+pub use get_def::def_of_bytes;
+pub use put_def::def_bytes;
