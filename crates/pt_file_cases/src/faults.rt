@@ -107,7 +107,7 @@ fn fail(alloc: Global, host: &mut MemHost, order: Order) -> Result<(), Stop>
     Ok(())
 }
 
-fn fail_call(alloc: Global, host: &mut MemHost, number: u64) -> Result<(), AllocError>
+pub(crate) fn fail_call(alloc: Global, host: &mut MemHost, number: u64) -> Result<(), AllocError>
     ensures { world_in host.new ≡ world_in host.old }
 {
     let number = host.calls().saturating_add(number);
@@ -142,6 +142,24 @@ fn images_text(alloc: Global, host: &MemHost, old: &str, new: &str) -> Result<St
         }
     }
     format!(in alloc; "images {images} old {is_old} new {is_new} other {is_other}")
+}
+
+/// How many of the images that a stop may leave now show another map than these two when they are opened.
+pub(crate) fn others_in(
+    alloc: Global,
+    host: &MemHost,
+    old: &str,
+    new: &str,
+) -> Result<u64, AllocError> {
+    let images = host.pending().saturating_add(1).saturating_mul(8);
+    let mut other = 0u64;
+    for choice in 0..images {
+        let map = image_text(alloc, host, choice)?;
+        if map.as_str() != old && map.as_str() != new {
+            other = other.saturating_add(1);
+        }
+    }
+    Ok(other)
 }
 
 /// The map that an image stands for.

@@ -19,6 +19,8 @@
 //! | `length NAME` | the length that the store tells, or `absent` |
 //! | `left` | how many name operations are pending once a store was attached, and the files that a stop then leaves |
 //! | `replace FILE..` | puts this map in the place of the one of the directory, which is from then on what is left: how many calls it took, whether the store is live, how many name operations are pending, in how many calls memory was wanting, and what the same store reads back |
+//! | `append FILE..` | adds these bytes at the ends of these files of its map, which is from then on what is left: the answer, whether the store is live and how many calls it took; `unfit` where the map lacks one |
+//! | `stops FILE..` | the same append once more for each of its calls with a fault in that call, and with one in each call from that one on: how many runs, how many didn't answer `fault` with a spent store, how many left it live, and how many images that a stop may then leave show another map than the old one and the new one |
 //! | `fault NUMBER SHIFT FILE..` | the same replacement with a fault in its call of this number, counted from 0, and with SHIFT 1 after one call more: the answer, whether the store is live, and of the images that a stop may then leave how many were opened, how many show the old map, the new one, and another |
 //!
 //! | Line without the directory | Answer |
@@ -30,11 +32,13 @@
 //! | `next BYTES` | the next serial by `next_of`, or `none` |
 //! | `counter N` | the bytes by `counter_bytes` |
 //! | `made STEP..` | the files by `files_of` of the database that these steps make: `TABLE=COLUMN` creates, `TABLE+VALUE` inserts |
+//! | `clean ACT..` | whether these acts, written `delete:NAME`, `rename:FROM:TO`, `replace:FROM:TO` and `exchange:A:B`, are a clean chain |
 //! | `laws` | calls the functions whose clauses are theorems |
 //!
-//! It stands on `pt_store`, `pt_table_files` and `pt_flat`, and on `pt_memhost` for the host.
+//! It stands on `pt_store`, `pt_ddl_log`, `pt_table_files` and `pt_flat`, and on `pt_memhost` for the host.
 #![tactic(auto)]
 
+mod changing;
 mod faults;
 mod maps;
 mod replacing;
@@ -63,6 +67,7 @@ fn answer(alloc: Global, directory: &mut String, line: &str) -> Result<String, A
             texts::directory_text(alloc, rest)
         }
         "replace" => replacing::answer(alloc, directory, rest),
+        "append" => changing::append_answer(alloc, directory, rest),
         _ => answer_about(alloc, directory.as_str(), word, rest, line),
     }
 }
@@ -80,6 +85,8 @@ fn answer_about(
         "length" => maps::length_answer(alloc, directory, rest),
         "left" => maps::left_answer(alloc, directory),
         "fault" => faults::answer(alloc, directory, rest),
+        "stops" => changing::stops_answer(alloc, directory, rest),
+        "clean" => changing::clean_answer(alloc, rest),
         "laws" => {
             laws();
             String::from_str(alloc, word)
@@ -91,6 +98,9 @@ fn answer_about(
 }
 
 fn laws() {
+    pt_ddl_log::one_act_each();
+    pt_ddl_log::in_any_order();
+    pt_store::reshapes_by_name();
     pt_left::stands_for_one_map();
     pt_table_files::one_database();
     pt_table_files::holds_one_database();
