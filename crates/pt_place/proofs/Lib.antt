@@ -5,3 +5,4 @@ pub mod Tuples
 pub mod PartNames
 pub mod Ranks
 pub mod Naming
+pub mod Positions

@@ -3,6 +3,7 @@
 //! - `place` gives the spot of a row, by the partitioning and then by the subpartitioning (`place_of`).
 //! - `leaf` gives the name of a spot (`leaf_of`), and `in_set` tells whether a list of names has it (`is_in_set`).
 //! - `valid` gives the first check that a definition fails, in the order of CREATE TABLE (`refusal_of`).
+//! - `storable_is_placed` is a theorem: a storable definition meets what `valid` asks of it.
 //! - What a text means, or what is refused of it, is `complete_of`: all names, numbers and constants are worked out.
 //!
 //! None of the calls takes memory. It stands on `pt_expr`, `pt_bounds`, `pt_hash`, `pt_ast`, `pt_value` and `pt_plain`.
@@ -13,6 +14,7 @@ mod columns;
 mod fitting;
 mod keys;
 mod kinds;
+mod laws;
 mod names;
 mod part_names;
 mod parts;
@@ -22,6 +24,7 @@ mod used;
 mod validity;
 mod values;
 
+pub use laws::storable_is_placed;
 pub use placing::place;
 pub use spot::{in_set, leaf};
 pub use validity::valid;
