@@ -106,20 +106,7 @@ fn part_option(symbols: &[Symbol], at: usize) -> Option<usize>
     comment(symbols, at)
 }
 
-/// The place behind an option of a table.
-#[tactic(auto, unfolding(crate::specs::ColumnReader::table_option))]
-fn table_option(symbols: &[Symbol], at: usize) -> Option<usize>
-    requires { at ≤ length symbols.now }
-    ensures passes { Passes symbols.now result (spec.table_option (drop at symbols.now)) }
-    ensures place { PassesTo (at + 1) symbols.now result }
-{
-    match peek(symbols, at) {
-        Some(Symbol::Fixed(Mark::Other(Reserved::Default))) => table_charset(symbols, at + 1),
-        _ => undefaulted(symbols, at),
-    }
-}
-
-/// The same, where DEFAULT doesn't stand before it.
+/// The place behind an option of a table that DEFAULT doesn't begin.
 fn undefaulted(symbols: &[Symbol], at: usize) -> Option<usize>
     requires { at ≤ length symbols.now }
     ensures passes { Passes symbols.now result (spec.undefaulted (drop at symbols.now)) }
@@ -148,7 +135,11 @@ pub(crate) struct TableOption;
 impl Skip for TableOption {
     ghost skipping = { spec.table_option };
 
+    #[tactic(auto, unfolding(crate::specs::ColumnReader::table_option))]
     fn skip(symbols: &[Symbol], at: usize) -> Option<usize> {
-        table_option(symbols, at)
+        match peek(symbols, at) {
+            Some(Symbol::Fixed(Mark::Other(Reserved::Default))) => table_charset(symbols, at + 1),
+            _ => undefaulted(symbols, at),
+        }
     }
 }

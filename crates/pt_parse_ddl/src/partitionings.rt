@@ -258,26 +258,17 @@ fn sub_behind(alloc: Global, symbols: &[Symbol], at: usize) -> Reading<SubSpec>
 }
 
 /// What the partitions are partitioned by.
-#[tactic(auto, unfolding(crate::specs::PartReader::sub_by))]
-fn sub_by(alloc: Global, symbols: &[Symbol], at: usize) -> Reading<SubSpec>
-    requires { at ≤ length symbols.now }
-    ensures reads { Reads symbols.now result (spec.sub_by steps.whole (drop at symbols.now)) }
-    ensures place { Reaches (at + 1) symbols.now result }
-{
-    let Some(next) = word(symbols, at, Keyword::Subpartition) else {
-        return Ok(None);
-    };
-    sub_behind(alloc, symbols, next)
-}
-
-/// What the partitions are partitioned by.
 struct SubRule;
 
 impl Rule<SubSpec> for SubRule {
     ghost reading = { spec.sub_by steps.whole };
 
+    #[tactic(auto, unfolding(crate::specs::PartReader::sub_by))]
     fn read(alloc: Global, symbols: &[Symbol], at: usize) -> Reading<SubSpec> {
-        sub_by(alloc, symbols, at)
+        match word(symbols, at, Keyword::Subpartition) {
+            None => Ok(None),
+            Some(next) => sub_behind(alloc, symbols, next),
+        }
     }
 }
 
