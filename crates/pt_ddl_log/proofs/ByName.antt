@@ -1,14 +1,12 @@
 -- What acts that have no name in common make of a map, name by name.
 use Rattle.std.proofs.Common.{◌≡◌, ◌⊎◌, ℕ, zero, suc, ◌<◌, Bool, true, false, List, [], ◌∷◌, length, get_or, refl, sym, ap, subst, ◌∙◌, arith, inl, inr}
 use Rattle.std.specs.Prelude.{Contains, AllPairs}
-use Rattle.std.specs.List.Sorted.{IsPermutation}
 use Rattle.std.proofs.lemmas.List.Sorted.{Contains-permutation, IsPermutation-sym}
 use Rattle.pt_host.specs.Disk.{Files}
 use Rattle.pt_ddl_log.specs.declared.chain.Act.{Act}
-use Rattle.pt_ddl_log.specs.declared.chain.Chain.{Chain}
 use Rattle.pt_ddl_log.specs.Chain.{names_of, after_act, act_on}
-use Rattle.pt_ddl_log.specs.Clean.{AreApart, IsClean}
-use Rattle.pt_ddl_log.specs.Laws.{ActsByName, OneActEach, InAnyOrder}
+use Rattle.pt_ddl_log.specs.Clean.{AreApart}
+use Rattle.pt_ddl_log.specs.Laws.{OneActEach, InAnyOrder}
 use Rattle.pt_ddl_log.specs.Tests.{has}
 use Rattle.pt_ddl_log.proofs.Names.{has_name, name_had, act_others, act_local}
 use Rattle.pt_ddl_log.proofs.Apart.{permuted_apart}

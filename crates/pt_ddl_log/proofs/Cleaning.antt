@@ -1,5 +1,5 @@
 -- The tests of a chain, one after the other.
-use Rattle.std.proofs.Common.{◌≡◌, ◌↔◌, Bool, true, false, not, refl, IsTrue, length, eqb, All, ap, sym, ◌∙◌, subst}
+use Rattle.std.proofs.Common.{◌≡◌, ◌↔◌, Bool, true, false, refl, IsTrue, length, eqb, All, sym, ◌∙◌}
 use Rattle.std.specs.Prelude.{AllPairs}
 use Rattle.std.specs.List.{list_any}
 use Rattle.std.proofs.lemmas.Bool.{false≢true}

@@ -1,16 +1,14 @@
 -- Files that are read entry by entry.
-use Rattle.std.proofs.Common.{◌≡◌, ◌≢◌, ◌⊎◌, ℕ, zero, suc, ◌+◌, ◌<◌, ◌≤◌, Bool, true, false, cond, List, [], ◌∷◌, ◌++◌, length, get_or, map, take, drop, All, refl, sym, ap, ap₂, ◌∙◌, subst, arith, Ordering, Less, Equal, Greater}
-use Rattle.std.specs.Prelude.{Option, Some, None, IsSomeAnd}
+use Rattle.std.proofs.Common.{◌≡◌, ℕ, ◌+◌, ◌<◌, ◌≤◌, List, [], ◌∷◌, ◌++◌, length, get_or, map, take, drop, All, refl, sym, ap, ap₂, ◌∙◌, subst, arith, Less, Greater}
 use Rattle.std.specs.List.{AllByRecursion}
-use Rattle.std.specs.List.Sorted.{IsStrictlySortedBy}
 use Rattle.std.specs.BTreeMap.{insert_entry}
 use Rattle.std.specs.Cmp.Lexicographic.{slice_cmp}
 use Rattle.std.specs.Ordering.{nat_cmp, match_ordering, ordering_reverse}
 use Rattle.std.proofs.lemmas.Cmp.{nat_list_cmp_total}
-use Rattle.std.proofs.lemmas.List.{take_more, take_all, get_or-take, length-take, map-append}
+use Rattle.std.proofs.lemmas.List.{take_more, get_or-take, length-take, map-append}
 use Rattle.std.proofs.lemmas.List.Elements.{All-nil, All-cons, All-map, at_read, recursion_from_All}
 use Rattle.pt_store.specs.declared.entry.Entry.{Entry}
-use Rattle.pt_store.specs.Entries.{IsEntry, AreEntries, AreInOrder, AreWithin, files_at, bytes_of}
+use Rattle.pt_store.specs.Entries.{AreEntries, AreInOrder, AreWithin, files_at}
 use Rattle.pt_store.proofs.Sought.{entries_rise}
 
 abbrev names : List (List ℕ × List ℕ) → List (List ℕ)

@@ -1,6 +1,6 @@
 -- What a store keeps of its map.
-use Rattle.std.proofs.Common.{◌≡◌, ◌≢◌, ℕ, zero, suc, ◌+◌, ◌≤◌, Bool, true, false, cond, List, [], ◌∷◌, length, map, take, drop, refl, sym, ap, ap₂, subst, ◌∙◌, arith, Bor}
-use Rattle.std.specs.Prelude.{Option, Some, None, slice_get, IsSome, IsSomeAnd}
+use Rattle.std.proofs.Common.{◌≡◌, ℕ, zero, suc, ◌+◌, ◌≤◌, Bool, true, false, cond, List, [], ◌∷◌, length, map, take, drop, refl, sym, ap, ap₂, subst, ◌∙◌, Bor}
+use Rattle.std.specs.Prelude.{Option, Some, None, slice_get, IsSome}
 use Rattle.std.specs.Option.{option_map, option_copied}
 use Rattle.std.specs.List.{find}
 use Rattle.std.specs.Str.{bytes_eq}

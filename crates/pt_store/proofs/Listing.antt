@@ -1,6 +1,6 @@
 -- Rising lists of files against maps from names to bytes: each change of one name leads from list to list, and two lists with the
 -- same files are one.
-use Rattle.std.proofs.Common.{◌≡◌, ◌≢◌, ◌⊎◌, ℕ, Bool, true, false, cond, not, List, [], ◌∷◌, ◌++◌, map, refl, sym, ap, ap₂, ◌∙◌, subst, inl, inr, Ordering, Less, Equal, Greater, arith, All}
+use Rattle.std.proofs.Common.{◌≡◌, ℕ, Bool, true, false, cond, not, List, [], ◌∷◌, ◌++◌, map, refl, sym, ap, ap₂, ◌∙◌, subst, Ordering, Less, Equal, Greater}
 use Rattle.std.specs.Prelude.{Option, Some, None}
 use Rattle.std.specs.List.{AllByRecursion, filter}
 use Rattle.std.specs.List.Sorted.{IsStrictlySortedBy}
@@ -27,7 +27,6 @@ use Rattle.pt_ddl_log.specs.Chain.{act_on, after_act}
 use Rattle.pt_store.specs.Batch.{added_to, added, appended}
 use Rattle.pt_store.specs.Reshape.{with_shadows, without_extra}
 use Rattle.pt_store.specs.Contents.{files_in}
-use Rattle.pt_store.proofs.Maps.{same_none, same_then, put_alike, act_alike}
 
 -- # Names that rise
 

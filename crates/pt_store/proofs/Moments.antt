@@ -1,5 +1,5 @@
 -- What the directory stands for, over runs of the store's calls.
-use Rattle.std.proofs.Common.{◌≡◌, ℕ, true, List, [], refl, sym, ap, subst, ◌∙◌, inl, inr}
+use Rattle.std.proofs.Common.{◌≡◌, ℕ, List, [], refl, sym, ap, subst, ◌∙◌, inl, inr}
 use Rattle.std.specs.Prelude.{Some, IsSome, IsTrue, Err}
 use Rattle.pt_host.specs.Disk.{Fs, IsImage, EachImage, IsAtRest, IsSound, shown}
 use Rattle.pt_host.specs.World.{World, IsQuiet, OnlyLooks}

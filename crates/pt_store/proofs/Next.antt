@@ -1,17 +1,17 @@
 -- The files of the next map, as the code makes them.
-use Rattle.std.proofs.Common.{◌≡◌, ◌≢◌, ◌⊎◌, ℕ, ◌+◌, ◌-◌, Bool, true, false, cond, not, is_some, List, [], ◌∷◌, ◌++◌, length, drop, map, refl, sym, ap, ◌∙◌, subst, arith, length-append}
-use Rattle.std.specs.Prelude.{Option, Some, None, nat_eq, Contains, All, IsSome}
+use Rattle.std.proofs.Common.{◌≡◌, ℕ, Bool, true, false, cond, not, is_some, List, [], ◌∷◌, ◌++◌, map, refl, sym, ap, ◌∙◌, subst}
+use Rattle.std.specs.Prelude.{Option, Some, None}
 use Rattle.std.specs.Option.{option_map}
-use Rattle.std.specs.List.{filter, ends_with}
+use Rattle.std.specs.List.{filter}
 use Rattle.std.specs.List.Sorted.{IsStrictlySortedBy}
 use Rattle.std.specs.BTreeMap.{BTreeMap}
-use Rattle.std.specs.Cmp.Lexicographic.{slice_cmp, pointwise}
+use Rattle.std.specs.Cmp.Lexicographic.{slice_cmp}
 use Rattle.std.specs.Ordering.{nat_cmp}
 use Rattle.std.specs.Str.{bytes_eq}
 use Rattle.pt_host.specs.Disk.{Files, put, moved}
 use Rattle.pt_host.specs.Images.{AreSame}
 use Rattle.pt_host.specs.Listed.{AreRising, by_name}
-use Rattle.pt_host.specs.Name.{is_extra, shadow_end, temp_end}
+use Rattle.pt_host.specs.Name.{is_extra, shadow_end}
 use Rattle.pt_ddl_log.specs.declared.chain.Act.{Act}
 use Rattle.pt_ddl_log.specs.declared.chain.Act.TheVariants.{Delete, Rename, Replace, Exchange}
 use Rattle.pt_ddl_log.specs.declared.chain.Chain.{Chain}
@@ -22,7 +22,7 @@ use Rattle.pt_store.specs.Contents.{files_in}
 use Rattle.pt_store.specs.Entries.{AreInOrder, length_in, size_of}
 use Rattle.pt_store.specs.Reshape.{with_shadows, without_extra, reshaped, IsReshaped, held, HasNames}
 use Rattle.pt_store.proofs.Maps.{added_alike, put_alike, act_alike, same_then}
-use Rattle.pt_store.proofs.Listing.{one_list, appended_read, appended_rising, appended_names, tree_read, lasting_read, lasting_rising, listed_acts, listed_shadows, listed_lasting}
+use Rattle.pt_store.proofs.Listing.{one_list, appended_read, appended_rising, appended_names, tree_read, lasting_read, listed_acts, listed_shadows, listed_lasting}
 
 -- # Sameness through a reshape
 

@@ -10,7 +10,7 @@ use Rattle.std.proofs.lemmas.List.{get_or-map, length-map}
 use Rattle.std.proofs.lemmas.List.Elements.{All-contains}
 use Rattle.std.proofs.lemmas.Slice.Eq.{bytes_eq-Decides}
 use Rattle.pt_host.specs.Counts.{Counts}
-use Rattle.pt_host.specs.Disk.{Fs, Files, put, EachImage, IsSound, shown}
+use Rattle.pt_host.specs.Disk.{Fs, Files, put, IsSound, shown}
 use Rattle.pt_host.specs.Listed.{FileList, AreRising, by_name}
 use Rattle.pt_host.specs.Name.{is_extra, shadow_end, temp_end}
 use Rattle.pt_host.specs.World.{World, IsQuiet, OnlyLooks}
@@ -22,14 +22,14 @@ use Rattle.pt_left.proofs.Once.{left_map, left_has}
 use Rattle.pt_ddl_log.specs.declared.chain.Act.{Act}
 use Rattle.pt_ddl_log.specs.declared.chain.Act.TheVariants.{Delete, Rename, Replace, Exchange}
 use Rattle.pt_ddl_log.specs.declared.chain.Chain.{Chain}
-use Rattle.pt_ddl_log.specs.Chain.{act_on, names_of}
+use Rattle.pt_ddl_log.specs.Chain.{names_of}
 use Rattle.pt_ddl_log.specs.Clean.{names_but_from}
 use Rattle.pt_ddl_log.proofs.ByName.{on_others}
 use Rattle.pt_store.specs.declared.entry.Entry.{Entry}
 use Rattle.pt_store.specs.declared.stop.Stop.{Stop}
 use Rattle.pt_store.specs.declared.stop.Stop.TheVariants.{NoMemory, Fault, Bad}
 use Rattle.pt_store.specs.declared.store.Store.{Store}
-use Rattle.pt_store.specs.Entries.{AreEntries, bytes_of, files_at, length_in, size_of}
+use Rattle.pt_store.specs.Entries.{bytes_of, files_at, length_in, size_of}
 use Rattle.pt_store.specs.Reshape.{with_shadows, fixed_names, Gives, IsReshape, IsReshaped, HasNames, held, reshaped}
 use Rattle.pt_store.specs.Step.{IsStep, HasSizes}
 use Rattle.pt_store.specs.Stops.{ByStop, IfBad, IsCounted}

@@ -2,7 +2,7 @@ use Rattle.std.proofs.Common.{◌≡◌, ◌↔◌, All, IsTrue, subst}
 use Rattle.std.specs.Prelude.{AllPairs}
 use Rattle.std.specs.List.{list_any}
 use Rattle.pt_ddl_log.specs.Clean.{AreApart, HasTwo, IsClean, IsLasting, is_exchange}
-use Rattle.pt_ddl_log.proofs.Cleaning.{fails, passes, plain, exchanging}
+use Rattle.pt_ddl_log.proofs.Cleaning.{fails, passes, plain}
 use Rattle.pt_ddl_log.proofs.clean.is_clean.Goals as goal
 
 pub returns-then-not-are_apart : goal.returns-then-not-are_apart

@@ -1,4 +1,4 @@
-use Rattle.std.proofs.Common.{◌≡◌, List, ℕ, map, not, sym, subst, ap, ◌∙◌}
+use Rattle.std.proofs.Common.{List, ℕ, not, sym, subst, ap, ◌∙◌}
 use Rattle.std.specs.List.{filter}
 use Rattle.std.proofs.lemmas.Map.Iter.{iter_end}
 use Rattle.pt_host.specs.Listed.{AreRising}

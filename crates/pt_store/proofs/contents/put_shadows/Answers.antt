@@ -1,4 +1,4 @@
-use Rattle.std.proofs.Common.{ℕ, ◌≤◌, List, ◌++◌, length, take, Some, sym, subst, ◌∙◌}
+use Rattle.std.proofs.Common.{ℕ, ◌≤◌, List, length, take, Some, sym, subst, ◌∙◌}
 use Rattle.pt_host.specs.Disk.{put}
 use Rattle.pt_host.specs.Images.{AreSame}
 use Rattle.pt_store.specs.Reshape.{with_shadows}

@@ -1,6 +1,5 @@
 use Rattle.std.proofs.Common.{Less, Equal, Greater}
 use Rattle.pt_store.proofs.Placed.{at_end, in_front, already, stands_at, before_more, before_all, has_at_end, has_inserted, has_already}
-use Rattle.pt_store.specs.Entries.{AreInOrder}
 use Rattle.pt_store.proofs.Ordered.{inserted_in_order, pushed_in_order}
 use Rattle.pt_store.proofs.serials.add_serials.Goals as goal
 
