@@ -43,7 +43,7 @@ fn date_at(bytes: &[u8]) -> Front<'_, Option<i32>>
     Ok((Some(day), rest))
 }
 
-fn fits_date(day: i32) -> bool
+pub(crate) fn fits_date(day: i32) -> bool
     ensures { result ≡ fits_date day }
 {
     -354_285 <= day && day <= 2_932_896

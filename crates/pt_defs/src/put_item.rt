@@ -133,7 +133,7 @@ pub(crate) fn put_key(out: &mut Vec<u8>, key: &KeyDef) -> Result<(), AllocError>
     put_positions(out, &key.columns)
 }
 
-fn rank_code(rank: Rank) -> u8
+pub(crate) fn rank_code(rank: Rank) -> u8
     ensures { result ≡ rank_code rank }
 {
     match rank {
