@@ -1,5 +1,5 @@
 -- What is left of some symbols, and what each generic rule takes.
-use Rattle.std.proofs.Common.{◌≡◌, ℕ, ◌<◌, ◌≤◌, List, [], ◌∷◌, ◌++◌, length, Option, ap, sym, subst, arith}
+use Rattle.std.proofs.Common.{◌≡◌, ℕ, ◌<◌, List, [], ◌∷◌, ◌++◌, length, Option, ap, sym, subst, arith}
 use Rattle.pt_ast.specs.declared.tree.Expr.{Expr}
 use Rattle.pt_parse_expr.specs.Grammar.{Symbols, IsExpr}
 use Rattle.pt_parse_expr.specs.declared.alphabet.Mark.TheVariants.{Close}

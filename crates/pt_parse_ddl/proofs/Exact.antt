@@ -1,16 +1,16 @@
 -- What the generic rules spell is read by the steps.
-use Rattle.std.proofs.Common.{◌≡◌, ℕ, ℤ, ◌<◌, if◌then◌else◌, Bool, true, false, List, [], ◌∷◌, length, Option, Some, None, refl, ap, ◌∙◌, sym, subst, arith}
+use Rattle.std.proofs.Common.{◌≡◌, ℕ, if◌then◌else◌, Bool, false, List, ◌∷◌, Option, Some, None, refl, ap, ◌∙◌, arith}
 use Rattle.std.specs.Str.{bytes_eq, str_to_ascii_lowercase}
 use Rattle.std.proofs.lemmas.Slice.Eq.{bytes_eq-Decides}
 use Rattle.pt_parse_expr.specs.declared.alphabet.Mark.TheVariants.{Open, Close, Comma}
 use Rattle.pt_parse_expr.specs.declared.alphabet.Symbol.{Symbol}
-use Rattle.pt_parse_expr.specs.declared.alphabet.Symbol.TheVariants.{Fixed, Word}
+use Rattle.pt_parse_expr.specs.declared.alphabet.Symbol.TheVariants.{Fixed}
 use Rattle.pt_parse_expr.specs.Grammar.{Symbols}
 use Rattle.pt_parse_expr.specs.Reader.{Reading, Reader, mapped, many, before, closed}
 use Rattle.pt_parse_expr.proofs.Many.{many-none, many-more}
 use Rattle.pt_parse_ddl.specs.declared.words.Keyword.{Keyword}
-use Rattle.pt_parse_ddl.specs.Words.{is_word, spelling, IsName, plain_name, quoted_name, IsWord, word}
-use Rattle.pt_parse_ddl.specs.Lists.{IsOptional, absent, present, AreRepeated, no_more, again, AreFurther, no_further, further, AreListed, listed, InParens, in_parens, InTuple}
+use Rattle.pt_parse_ddl.specs.Words.{spelling, IsName, plain_name, quoted_name, IsWord, word}
+use Rattle.pt_parse_ddl.specs.Lists.{IsOptional, absent, present, AreRepeated, no_more, again, AreFurther, no_further, further, AreListed, listed, in_parens, InTuple}
 use Rattle.pt_parse_ddl.specs.Steps.{and_then, if_read, or_absent, optional, next_item, more_items, several, in_parens as parens, tuple, named, worded}
 use Rattle.pt_parse_ddl.proofs.After.{After, after-keeps, shorter}
 

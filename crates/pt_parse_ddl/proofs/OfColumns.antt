@@ -1,7 +1,6 @@
 -- Columns and options: what is read is spelled, what is spelled is read, and it is storable.
-use Rattle.std.proofs.Common.{◌≡◌, ℕ, ℤ, Bool, true, false, List, [], ◌∷◌, Option, Some, None, refl, ap, ◌∙◌}
+use Rattle.std.proofs.Common.{◌≡◌, ℕ, ℤ, Bool, true, false, List, ◌∷◌, Option, Some, None, refl, ap, ◌∙◌}
 use Rattle.std.proofs.lemmas.Bool.{true≢false}
-use Rattle.pt_value.specs.Text.{day_of}
 use Rattle.pt_ast.specs.declared.written.Literal.{Literal}
 use Rattle.pt_ast.specs.declared.written.Literal.TheVariants as literal
 use Rattle.pt_ast.specs.declared.written.KindSpec.{KindSpec}
@@ -9,27 +8,27 @@ use Rattle.pt_ast.specs.declared.written.KindSpec.TheVariants as kind
 use Rattle.pt_ast.specs.declared.written.ColOption.{ColOption}
 use Rattle.pt_ast.specs.declared.written.ColOption.TheVariants as option
 use Rattle.pt_ast.specs.declared.tree.Cmp.TheVariants.{Eq}
-use Rattle.pt_parse_expr.specs.declared.alphabet.Mark.TheVariants.{Open, Close, Compare, Minus, Not, Null, Other, Plus}
+use Rattle.pt_parse_expr.specs.declared.alphabet.Mark.TheVariants.{Open, Compare, Minus, Not, Null, Other, Plus}
 use Rattle.pt_parse_expr.specs.declared.alphabet.Reserved.TheVariants as word
 use Rattle.pt_parse_expr.specs.declared.alphabet.Symbol.{Symbol}
-use Rattle.pt_parse_expr.specs.declared.alphabet.Symbol.TheVariants.{Fixed, Number, Text, Hex, Word, Quoted}
+use Rattle.pt_parse_expr.specs.declared.alphabet.Symbol.TheVariants.{Fixed, Number, Text, Hex}
 use Rattle.pt_parse_expr.specs.Grammar.{Symbols, IsSign}
 use Rattle.pt_parse_expr.specs.Grammar as expr
-use Rattle.pt_parse_expr.specs.Reader.{Reading, Reader, mapped, or_else, many}
+use Rattle.pt_parse_expr.specs.Reader.{Reading, mapped, or_else}
 use Rattle.pt_parse_expr.proofs.Sound.{Sound}
 use Rattle.pt_parse_ddl.specs.declared.words.Keyword.{Keyword}
 use Rattle.pt_parse_ddl.specs.declared.words.Keyword.TheVariants as keyword
 use Rattle.pt_parse_ddl.specs.Words.{the, IsName, plain_name, quoted_name, IsWord, word as is_word}
-use Rattle.pt_parse_ddl.specs.Lists.{IsOptional, absent, present, AreRepeated, no_more, again, InParens, in_parens}
+use Rattle.pt_parse_ddl.specs.Lists.{IsOptional, AreRepeated, InParens, in_parens}
 use Rattle.pt_parse_ddl.specs.Columns.{IsNumber, IsCharset, IsKind, IsLiteral, IsColOption, kept, IsEquals, IsEngine, IsComment, IsTableCharset, IsTableOption}
 use Rattle.pt_parse_ddl.specs.Columns as rule
 use Rattle.pt_parse_ddl.specs.Partitioning.{IsPartOption, part_engine, part_comment}
 use Rattle.pt_parse_ddl.specs.Steps.{and_then, optional, named, numbered, worded}
 use Rattle.pt_parse_ddl.specs.Steps as steps
-use Rattle.pt_parse_ddl.specs.ColumnReader.{past_set, charset, widened, binary_chars, binary, chars, date_kind, kinded, dated, day, constant, past_key, past_null, past_text, not_null, default, primary, remark, col_option, col_options, equals, past_equals, equals_name, engine, comment, table_charset, part_option, undefaulted, table_option}
-use Rattle.pt_parse_ddl.proofs.After.{After, first, later, ◌▸◌, UpTo, nothing, something, ◌▸*◌, ◌*▸◌, name-after, word-after, optional-up_to, parens-after}
-use Rattle.pt_parse_ddl.proofs.Sounding.{and_then-sound, mapped-sound, or_else-sound, name-sound, number-sound, word-sound, parens-sound, optional-sound, repeated-sound}
-use Rattle.pt_parse_ddl.proofs.Exact.{and_then-is, mapped-is, name-read, word-read, word-other, optional-read, Ends, at_comma, at_close, repeated-read}
+use Rattle.pt_parse_ddl.specs.ColumnReader.{past_set, charset, widened, binary_chars, date_kind, kinded, dated, day, constant, past_key, past_null, past_text, not_null, primary, remark, col_option, col_options, equals, past_equals, equals_name, engine, comment, table_charset, part_option, undefaulted, table_option}
+use Rattle.pt_parse_ddl.proofs.After.{After, first, later, ◌▸◌, UpTo, nothing, something, ◌▸*◌, name-after, word-after, optional-up_to, parens-after}
+use Rattle.pt_parse_ddl.proofs.Sounding.{and_then-sound, mapped-sound, or_else-sound, name-sound, number-sound, word-sound, parens-sound, optional-sound}
+use Rattle.pt_parse_ddl.proofs.Exact.{and_then-is, mapped-is, word-read, word-other, optional-read, Ends, at_comma, at_close, repeated-read}
 
 -- ---- what each rule takes
 

@@ -1,26 +1,23 @@
 -- Columns and keys of a table: what is read is spelled, and what is spelled is read.
-use Rattle.std.proofs.Common.{◌≡◌, ℕ, List, [], ◌∷◌, Option, Some, None, refl, ap, ◌∙◌}
+use Rattle.std.proofs.Common.{◌≡◌, ℕ, List, ◌∷◌, Option, Some, None, refl, ap, ◌∙◌}
 use Rattle.pt_ast.specs.declared.table.Rank.{Rank}
 use Rattle.pt_ast.specs.declared.table.Rank.TheVariants as rank
-use Rattle.pt_ast.specs.declared.written.KindSpec.{KindSpec}
 use Rattle.pt_ast.specs.declared.written.Item.{Item}
 use Rattle.pt_ast.specs.declared.written.Item.TheVariants as item
-use Rattle.pt_parse_expr.specs.declared.alphabet.Mark.TheVariants.{Open, Other}
+use Rattle.pt_parse_expr.specs.declared.alphabet.Mark.TheVariants.{Other}
 use Rattle.pt_parse_expr.specs.declared.alphabet.Reserved.TheVariants as word
-use Rattle.pt_parse_expr.specs.declared.alphabet.Symbol.{Symbol}
 use Rattle.pt_parse_expr.specs.declared.alphabet.Symbol.TheVariants.{Fixed}
 use Rattle.pt_parse_expr.specs.Grammar.{Symbols}
-use Rattle.pt_parse_expr.specs.Reader.{Reading, Reader, mapped}
 use Rattle.pt_parse_expr.proofs.Sound.{Sound}
 use Rattle.pt_parse_ddl.specs.Words.{the, IsName, plain_name, quoted_name}
-use Rattle.pt_parse_ddl.specs.Lists.{IsOptional, absent, present, AreRepeated, listed, InParens, in_parens, InTuple}
-use Rattle.pt_parse_ddl.specs.Columns.{IsKind, IsColOption, kept}
+use Rattle.pt_parse_ddl.specs.Lists.{IsOptional, absent, present, in_parens}
+use Rattle.pt_parse_ddl.specs.Columns.{IsKind, IsColOption}
 use Rattle.pt_parse_ddl.specs.Keys.{AreColumns, IsIndexWord, IsItem}
 use Rattle.pt_parse_ddl.specs.Keys as rule
-use Rattle.pt_parse_ddl.specs.Steps.{and_then, optional, tuple, named}
-use Rattle.pt_parse_ddl.specs.ColumnReader.{kinded, col_option, col_options, past_key}
-use Rattle.pt_parse_ddl.specs.KeyReader.{past_index, keyed_by, keyed, unique, primary_key, with_options, column, table_item}
-use Rattle.pt_parse_ddl.proofs.After.{After, first, later, ◌▸◌, UpTo, ◌▸*◌, ◌*▸◌, name-after, optional-up_to, repeated-up_to, tuple-after}
+use Rattle.pt_parse_ddl.specs.Steps.{optional, tuple, named}
+use Rattle.pt_parse_ddl.specs.ColumnReader.{kinded, col_option, past_key}
+use Rattle.pt_parse_ddl.specs.KeyReader.{past_index, keyed_by, keyed, primary_key, with_options, column, table_item}
+use Rattle.pt_parse_ddl.proofs.After.{After, later, ◌▸◌, UpTo, ◌▸*◌, ◌*▸◌, name-after, optional-up_to, repeated-up_to, tuple-after}
 use Rattle.pt_parse_ddl.proofs.Sounding.{and_then-sound, mapped-sound, name-sound, optional-sound, repeated-sound, tuple-sound}
 use Rattle.pt_parse_ddl.proofs.Exact.{and_then-is, mapped-is, name-read, Ends, tuple-read}
 use Rattle.pt_parse_ddl.proofs.OfColumns.{kind-after, col_option-after, kind-sound, col_option-sound, kind-read, col_options-read}

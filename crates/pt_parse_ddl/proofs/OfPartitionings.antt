@@ -9,23 +9,23 @@ use Rattle.pt_ast.specs.declared.written.SubSpec.{SubSpec}
 use Rattle.pt_parse_expr.specs.declared.alphabet.Mark.TheVariants.{Open, Close, Other}
 use Rattle.pt_parse_expr.specs.declared.alphabet.Reserved.TheVariants as word
 use Rattle.pt_parse_expr.specs.declared.alphabet.Symbol.{Symbol}
-use Rattle.pt_parse_expr.specs.declared.alphabet.Symbol.TheVariants.{Fixed, Number, Word}
+use Rattle.pt_parse_expr.specs.declared.alphabet.Symbol.TheVariants.{Fixed, Number}
 use Rattle.pt_parse_expr.specs.Grammar.{Symbols, IsExpr}
-use Rattle.pt_parse_expr.specs.Reader.{Reading, Reader, mapped, or_else, close, closed}
+use Rattle.pt_parse_expr.specs.Reader.{Reading, Reader, mapped, close, closed}
 use Rattle.pt_parse_expr.proofs.Sound.{Sound}
 use Rattle.pt_parse_ddl.specs.declared.words.Keyword.{Keyword}
 use Rattle.pt_parse_ddl.specs.declared.words.Keyword.TheVariants as keyword
-use Rattle.pt_parse_ddl.specs.Words.{the, IsName, plain_name, quoted_name, IsWord, word as is_word}
-use Rattle.pt_parse_ddl.specs.Lists.{IsOptional, absent, present, AreListed, listed, InParens, in_parens, InTuple}
+use Rattle.pt_parse_ddl.specs.Words.{the, plain_name, quoted_name, IsWord, word as is_word}
+use Rattle.pt_parse_ddl.specs.Lists.{IsOptional, listed, InParens, in_parens}
 use Rattle.pt_parse_ddl.specs.Keys.{AreColumns}
 use Rattle.pt_parse_ddl.specs.Partitioning.{IsLinear, AreKeyColumns, IsHash, IsMain, IsCount, IsSub}
 use Rattle.pt_parse_ddl.specs.Partitioning as rule
 use Rattle.pt_parse_ddl.specs.Steps.{and_then, if_read, optional, tuple, named, numbered, worded}
 use Rattle.pt_parse_ddl.specs.Steps as steps
-use Rattle.pt_parse_ddl.specs.PartReader.{past_linear, no_columns, key_columns, counted, count, sub_count, by_key, by_hash, hash_of, hashed, ranged, among, among_or_hashed, main_of, sub_counted, sub_behind, sub_by}
-use Rattle.pt_parse_ddl.proofs.After.{After, first, later, ◌▸◌, UpTo, nothing, something, ◌▸*◌, ◌*▸◌, after-keeps, up_to-keeps, word-after, optional-up_to, parens-after, expr-after}
+use Rattle.pt_parse_ddl.specs.PartReader.{past_linear, no_columns, key_columns, counted, sub_count, by_hash, hash_of, hashed, ranged, among, among_or_hashed, main_of, sub_counted, sub_behind, sub_by}
+use Rattle.pt_parse_ddl.proofs.After.{After, first, later, ◌▸◌, UpTo, nothing, something, ◌▸*◌, ◌*▸◌, after-keeps, word-after, optional-up_to, parens-after, expr-after}
 use Rattle.pt_parse_ddl.proofs.Sounding.{and_then-sound, if_read-sound, mapped-sound, or_else-sound, word-sound, parens-sound, optional-sound}
-use Rattle.pt_parse_ddl.proofs.Exact.{and_then-is, if_read-is, mapped-is, word-read, word-other, optional-read, Ends, at_comma, at_close}
+use Rattle.pt_parse_ddl.proofs.Exact.{and_then-is, if_read-is, mapped-is, word-read, word-other, optional-read, Ends, at_close}
 use Rattle.pt_parse_ddl.proofs.OfKeys.{columns-after, columns-sound, columns-read}
 
 -- ---- what each rule takes

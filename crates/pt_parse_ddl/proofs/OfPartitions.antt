@@ -1,5 +1,5 @@
 -- Definitions of partitions: what is read is spelled, and what is spelled is read.
-use Rattle.std.proofs.Common.{◌≡◌, ℕ, ℤ, Bool, true, false, List, [], ◌∷◌, Option, Some, None, refl, ap, ◌∙◌, sym}
+use Rattle.std.proofs.Common.{◌≡◌, ℕ, Bool, true, false, List, [], ◌∷◌, Option, Some, None, refl, ap, ◌∙◌}
 use Rattle.std.proofs.lemmas.Bool.{true≢false}
 use Rattle.pt_ast.specs.declared.tree.Expr.{Expr}
 use Rattle.pt_ast.specs.declared.written.BoundSpec.{BoundSpec}
@@ -8,11 +8,10 @@ use Rattle.pt_ast.specs.declared.written.Entry.{Entry}
 use Rattle.pt_ast.specs.declared.written.Entry.TheVariants as entry
 use Rattle.pt_ast.specs.declared.written.ValuesSpec.{ValuesSpec}
 use Rattle.pt_ast.specs.declared.written.ValuesSpec.TheVariants as values
-use Rattle.pt_ast.specs.declared.written.MainSpec.{MainSpec}
 use Rattle.pt_ast.specs.declared.written.SubSpec.{SubSpec}
 use Rattle.pt_ast.specs.declared.written.PartItem.{PartItem}
 use Rattle.pt_ast.specs.declared.written.PartSpec.{PartSpec}
-use Rattle.pt_parse_expr.specs.declared.alphabet.Mark.TheVariants.{Open, Close, Comma, In, Other}
+use Rattle.pt_parse_expr.specs.declared.alphabet.Mark.TheVariants.{Open, Close, In, Other}
 use Rattle.pt_parse_expr.specs.declared.alphabet.Reserved.TheVariants as word
 use Rattle.pt_parse_expr.specs.declared.alphabet.Symbol.{Symbol}
 use Rattle.pt_parse_expr.specs.declared.alphabet.Symbol.TheVariants.{Fixed}
@@ -23,7 +22,7 @@ use Rattle.pt_parse_expr.proofs.Sound.{Sound}
 use Rattle.pt_parse_expr.proofs.Many.{many-none}
 use Rattle.pt_parse_ddl.specs.declared.words.Keyword.TheVariants as keyword
 use Rattle.pt_parse_ddl.specs.Words.{the, IsName, IsWord, word as is_word}
-use Rattle.pt_parse_ddl.specs.Lists.{IsOptional, absent, present, AreRepeated, no_more, again, AreFurther, no_further, further, AreListed, listed, InParens, in_parens, InTuple}
+use Rattle.pt_parse_ddl.specs.Lists.{IsOptional, absent, present, AreRepeated, no_more, again, further, listed, in_parens, InTuple}
 use Rattle.pt_parse_ddl.specs.Columns.{engine, comment}
 use Rattle.pt_parse_ddl.specs.Partitioning.{IsMain, IsCount, IsSub, IsPartOption, IsSubpart, IsBound, IsEntry, IsLessThan, IsValues, IsPart, IsPartBy}
 use Rattle.pt_parse_ddl.specs.Partitioning as rule
@@ -33,7 +32,7 @@ use Rattle.pt_parse_ddl.specs.ColumnReader.{part_option}
 use Rattle.pt_parse_ddl.specs.ColumnReader as columns
 use Rattle.pt_parse_ddl.specs.PartReader.{count, sub_count, main_of, sub_by, past_options, subpart, subparts, less_than, two_or_more, with_subs, with_values, value_bound, bound_of, pair, entry_of, less_bounds, less, entries, below, values_behind, valued, part_behind, part_of, parts_of, with_parts, with_sub, with_count, part_behind_by, part_by}
 use Rattle.pt_parse_ddl.specs.PartReader as reader
-use Rattle.pt_parse_ddl.proofs.After.{After, first, later, ◌▸◌, UpTo, something, ◌▸*◌, ◌*▸◌, after-keeps, up_to-keeps, name-after, word-after, optional-up_to, repeated-up_to, further-up_to, tuple-after, expr-after}
+use Rattle.pt_parse_ddl.proofs.After.{After, first, later, ◌▸◌, UpTo, ◌▸*◌, after-keeps, up_to-keeps, name-after, word-after, optional-up_to, repeated-up_to, further-up_to, tuple-after, expr-after}
 use Rattle.pt_parse_ddl.proofs.Sounding.{and_then-sound, if_read-sound, mapped-sound, name-sound, word-sound, optional-sound, repeated-sound, tuple-sound}
 use Rattle.pt_parse_ddl.proofs.Exact.{and_then-is, if_read-is, mapped-is, name-read, word-read, word-other, optional-read, Ends, at_comma, at_close, repeated-read, tuple-read}
 use Rattle.pt_parse_ddl.proofs.OfColumns.{part_option-after, part_option-sound, part_option-read}

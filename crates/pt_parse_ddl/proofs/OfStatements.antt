@@ -11,23 +11,22 @@ use Rattle.pt_parse_expr.specs.declared.alphabet.Reserved.TheVariants as word
 use Rattle.pt_parse_expr.specs.declared.alphabet.Symbol.{Symbol}
 use Rattle.pt_parse_expr.specs.declared.alphabet.Symbol.TheVariants.{Fixed}
 use Rattle.pt_parse_expr.specs.Grammar.{Symbols, IsExpr}
-use Rattle.pt_parse_expr.specs.Reader.{Reading, Reader, mapped, many}
+use Rattle.pt_parse_expr.specs.Reader.{Reader, many}
 use Rattle.pt_parse_expr.proofs.Sound.{Sound}
 use Rattle.pt_parse_ddl.specs.Words.{the, IsName, plain_name, quoted_name}
 use Rattle.pt_parse_ddl.specs.Statements.{IsIfNotExists, IsIfExists, IsTable, IsStmt}
 use Rattle.pt_parse_ddl.specs.Statements as rule
-use Rattle.pt_parse_ddl.specs.Lists.{IsOptional, absent, present, AreRepeated, no_more, again, InParens, in_parens, InTuple}
+use Rattle.pt_parse_ddl.specs.Lists.{IsOptional, absent, present, AreRepeated, in_parens, InTuple}
 use Rattle.pt_parse_ddl.specs.Columns.{IsTableOption}
 use Rattle.pt_parse_ddl.specs.Keys.{IsItem}
 use Rattle.pt_parse_ddl.specs.Partitioning.{IsPartBy, part_by}
-use Rattle.pt_parse_ddl.specs.Steps.{and_then, optional, tuple, named, worded}
-use Rattle.pt_parse_ddl.specs.Steps as steps
+use Rattle.pt_parse_ddl.specs.Steps.{optional, tuple, named, worded}
 use Rattle.pt_parse_ddl.specs.ColumnReader.{table_option}
 use Rattle.pt_parse_ddl.specs.ColumnReader as columns
 use Rattle.pt_parse_ddl.specs.KeyReader.{table_item}
 use Rattle.pt_parse_ddl.specs.PartReader as parts
-use Rattle.pt_parse_ddl.specs.Reader.{exists, not_exists, if_exists, if_not_exists, like, with_by, behind_items, new_spec, created, create_or_like, new_table, dropped, shown_table, shown, statement}
-use Rattle.pt_parse_ddl.proofs.After.{After, first, later, ◌▸◌, UpTo, nothing, something, ◌▸*◌, ◌*▸◌, after-keeps, up_to-keeps, name-after, repeated-up_to, tuple-after}
+use Rattle.pt_parse_ddl.specs.Reader.{exists, not_exists, if_exists, if_not_exists, with_by, behind_items, new_spec, created, create_or_like, new_table, dropped, shown_table, shown, statement}
+use Rattle.pt_parse_ddl.proofs.After.{After, first, later, UpTo, nothing, something, after-keeps, up_to-keeps, name-after, repeated-up_to, tuple-after}
 use Rattle.pt_parse_ddl.proofs.Sounding.{and_then-sound, mapped-sound, name-sound, optional-sound, repeated-sound, tuple-sound}
 use Rattle.pt_parse_ddl.proofs.Exact.{and_then-is, mapped-is, name-read, optional-read, Ends, repeated-read, tuple-read}
 use Rattle.pt_parse_ddl.proofs.OfColumns.{table_option-after, table_option-sound, table_option-read}

@@ -1,5 +1,5 @@
 -- What the generic steps read is spelled.
-use Rattle.std.proofs.Common.{◌≡◌, ℕ, ℤ, if◌then◌else◌, Bool, true, false, List, [], ◌∷◌, Option, Some, None, refl}
+use Rattle.std.proofs.Common.{◌≡◌, if◌then◌else◌, Bool, true, false, ◌∷◌, Some, None, refl}
 use Rattle.pt_parse_expr.specs.declared.alphabet.Mark.TheVariants.{Open, Close, Comma}
 use Rattle.pt_parse_expr.specs.declared.alphabet.Symbol.TheVariants.{Fixed, Word, Quoted, Number}
 use Rattle.pt_parse_expr.specs.Grammar.{Symbols}

@@ -1,5 +1,5 @@
 -- What the rules spell of symbols within the limits is storable.
-use Rattle.std.proofs.Common.{◌≡◌, ℕ, ℤ, zero, suc, ◌+◌, ◌*◌, ◌^◌, ◌≤◌, ◌<◌, Bool, true, false, List, [], ◌∷◌, length, Option, Some, None, IfSome, refl, subst, arith}
+use Rattle.std.proofs.Common.{ℕ, ℤ, ◌+◌, ◌*◌, ◌^◌, ◌≤◌, List, [], ◌∷◌, length, Option, Some, None, IfSome, arith}
 use Rattle.std.specs.Prelude.{All}
 use Rattle.std.specs.List.{AllByRecursion}
 use Rattle.std.proofs.lemmas.List.Elements.{All-from_recursion, recursion_from_All}
@@ -19,15 +19,13 @@ use Rattle.pt_ast.specs.declared.written.PartItem.{PartItem}
 use Rattle.pt_ast.specs.declared.written.PartSpec.{PartSpec}
 use Rattle.pt_ast.specs.declared.written.TableSpec.{TableSpec}
 use Rattle.pt_ast.specs.declared.statement.Stmt.{Stmt}
-use Rattle.pt_ast.specs.Storable.{HasAtLeast, IsCounted, IsNotNegative}
+use Rattle.pt_ast.specs.Storable.{HasAtLeast, IsNotNegative}
 use Rattle.pt_ast.specs.StorableExpr.{IsStorableExpr}
 use Rattle.pt_ast.specs.StorableSpec.{IsStorableLiteral, IsStorableKind, IsStorableOption, IsStorableItem, is_column, IsStorableHash, IsStorableMain, IsStorableBound, IsStorableEntry, IsStorableValues, IsStorablePart, AreStorableParts, IsStorableSub, IsStorablePartSpec, IsStorableSpec}
 use Rattle.pt_ast.specs.StorableStmt.{IsStorableStmt}
 use Rattle.pt_token.specs.declared.token.Token.{Token}
 use Rattle.pt_token.specs.Tokens.{IsLexed}
-use Rattle.pt_parse_expr.specs.declared.alphabet.Mark.TheVariants.{Close}
 use Rattle.pt_parse_expr.specs.declared.alphabet.Symbol.{Symbol}
-use Rattle.pt_parse_expr.specs.declared.alphabet.Symbol.TheVariants.{Fixed}
 use Rattle.pt_parse_expr.specs.Grammar.{Symbols, IsExpr}
 use Rattle.pt_parse_expr.specs.Limits.{IsDeep, IsShallow, open_after}
 use Rattle.pt_parse_expr.specs.Symbols.{symbols}
@@ -35,9 +33,8 @@ use Rattle.pt_parse_expr.proofs.Shallow.{shallow}
 use Rattle.pt_parse_expr.proofs.Storing.{IsStorableSymbol, expr-within}
 use Rattle.pt_parse_expr.proofs.StorableSymbols.{symbols-storable, symbols-count}
 use Rattle.pt_parse_ddl.specs.declared.words.Keyword.{Keyword}
-use Rattle.pt_parse_ddl.specs.declared.words.Keyword.TheVariants as keyword
-use Rattle.pt_parse_ddl.specs.Words.{IsName, IsWord}
-use Rattle.pt_parse_ddl.specs.Lists.{IsOptional, absent, present, AreRepeated, no_more, again, AreFurther, no_further, further, AreListed, listed, InParens, in_parens, InTuple}
+use Rattle.pt_parse_ddl.specs.Words.{IsName}
+use Rattle.pt_parse_ddl.specs.Lists.{IsOptional, absent, present, AreRepeated, no_more, again, AreFurther, no_further, further, listed, InParens, in_parens, InTuple}
 use Rattle.pt_parse_ddl.specs.Columns.{IsNumber, IsKind, IsLiteral, IsColOption, kept}
 use Rattle.pt_parse_ddl.specs.Columns as column
 use Rattle.pt_parse_ddl.specs.Keys.{AreColumns, IsItem}
@@ -47,7 +44,7 @@ use Rattle.pt_parse_ddl.specs.Partitioning as part
 use Rattle.pt_parse_ddl.specs.Statements.{IsTable, IsStmt}
 use Rattle.pt_parse_ddl.specs.Statements as stmt
 use Rattle.pt_parse_ddl.specs.Spelling.{SpellsStmt}
-use Rattle.pt_parse_ddl.proofs.After.{After, first, later, ◌▸◌, UpTo, nothing, something, ◌▸*◌, shorter, repeated-up_to, after-keeps, up_to-keeps, name-after, word-after, tuple-after}
+use Rattle.pt_parse_ddl.proofs.After.{After, ◌▸◌, UpTo, nothing, something, shorter, repeated-up_to, after-keeps, up_to-keeps, name-after, word-after}
 use Rattle.pt_parse_ddl.proofs.OfColumns.{kind-after, col_option-after}
 use Rattle.pt_parse_ddl.proofs.OfKeys.{columns-after, name-up_to, item-after}
 use Rattle.pt_parse_ddl.proofs.OfPartitionings.{linear-up_to, hash-after, main-after, count-after, count-up_to, sub-after}

@@ -1,5 +1,5 @@
 -- From what was read of all symbols to what they spell.
-use Rattle.std.proofs.Common.{◌≡◌, ℕ, zero, suc, ◌<◌, ◌≤◌, ◌+◌, arith, true, false, List, [], ◌∷◌, length, drop, Option, Some, None, Ok, refl, ap, ◌∙◌, sym, subst}
+use Rattle.std.proofs.Common.{◌≡◌, ℕ, zero, suc, ◌<◌, arith, true, false, [], ◌∷◌, length, drop, Option, Some, None, Ok, refl, ap, ◌∙◌, sym, subst}
 use Rattle.std.proofs.lemmas.Bool.{true≢false}
 use Rattle.pt_ast.specs.declared.tree.Expr.{Expr}
 use Rattle.pt_ast.specs.declared.statement.Stmt.{Stmt}

@@ -1,5 +1,5 @@
 -- The reading of columns and of what a table is stored by, as functions on lists of symbols. (In the shape of the code.)
-use Rattle.std.specs.Prelude.{ℤ, List, [], ◌∷◌, Bool, true, false, Option, Some, None}
+use Rattle.std.specs.Prelude.{ℤ, List, ◌∷◌, Bool, true, false, Option, Some, None}
 use Rattle.pt_value.specs.Text.{day_of}
 use Rattle.pt_ast.specs.declared.tree.Cmp.TheVariants.{Eq}
 use Rattle.pt_ast.specs.declared.written.Literal.{Literal}
@@ -12,7 +12,7 @@ use Rattle.pt_parse_expr.specs.declared.alphabet.Mark.TheVariants.{Compare, Minu
 use Rattle.pt_parse_expr.specs.declared.alphabet.Reserved.TheVariants as word
 use Rattle.pt_parse_expr.specs.declared.alphabet.Symbol.TheVariants.{Fixed, Number, Text, Hex}
 use Rattle.pt_parse_expr.specs.Grammar.{Symbols}
-use Rattle.pt_parse_expr.specs.Reader.{Reading, Reader, mapped, or_else, many}
+use Rattle.pt_parse_expr.specs.Reader.{Reader, mapped, or_else, many}
 use Rattle.pt_parse_ddl.specs.declared.words.Keyword.TheVariants as keyword
 use Rattle.pt_parse_ddl.specs.Columns.{kept}
 use Rattle.pt_parse_ddl.specs.Steps.{and_then, optional, in_parens, named, numbered, worded}

@@ -8,7 +8,7 @@
 --
 -- After the manual's section 13.1.18, "CREATE TABLE Syntax". Display widths, comments, engines and the character set of a table have
 -- no part in a tree.
-use Rattle.std.specs.Prelude.{◌≡◌, ℕ, ℤ, List, [], ◌∷◌, Bool, true, false, Option, Some, None}
+use Rattle.std.specs.Prelude.{ℕ, ℤ, List, [], ◌∷◌, Bool, false, Option, Some, None}
 use Rattle.pt_value.specs.Text.{day_of}
 use Rattle.pt_ast.specs.declared.tree.Cmp.TheVariants.{Eq}
 use Rattle.pt_ast.specs.declared.written.Literal.{Literal}

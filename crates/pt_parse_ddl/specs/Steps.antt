@@ -1,5 +1,5 @@
 -- Steps of reading, as functions on lists of symbols. (In the shape of the code.)
-use Rattle.std.specs.Prelude.{◌≡◌, ◌≤◌, ℕ, ℤ, List, [], ◌∷◌, length, drop, Option, Some, None, if◌then◌else◌}
+use Rattle.std.specs.Prelude.{◌≡◌, ◌≤◌, ℕ, ℤ, List, ◌∷◌, length, drop, Option, Some, None, if◌then◌else◌}
 use Rattle.pt_ast.specs.declared.tree.Expr.{Expr}
 use Rattle.pt_parse_expr.specs.declared.alphabet.Mark.TheVariants.{Open, Comma}
 use Rattle.pt_parse_expr.specs.declared.alphabet.Symbol.TheVariants.{Fixed, Word, Quoted, Number}
