@@ -1,0 +1,46 @@
+use crate::columns::put_item;
+use crate::exprs::put_name;
+use crate::partitions::put_by;
+use pt_ast::{Stmt, TableSpec};
+use std::alloc::AllocError;
+
+/// Writes a statement behind a text, with `if` where it has IF EXISTS or IF NOT EXISTS: ``like if `a` `b` ``, ``drop `a` ``, ``show `a` ``,
+/// and ``create `a` (..) (..) by ..`` with its columns, keys and partitioning; other statements are `?`.
+pub(crate) fn put_stmt(text: &mut String, stmt: &Stmt) -> Result<(), AllocError> {
+    match stmt {
+        Stmt::Create(only_new, table, spec) => {
+            put_head(text, "create", *only_new, table.bytes())?;
+            put_spec(text, spec)
+        }
+        Stmt::Like(only_new, table, other) => {
+            put_head(text, "like", *only_new, table.bytes())?;
+            text.push(' ')?;
+            put_name(text, other.bytes())
+        }
+        Stmt::Drop(if_there, table) => put_head(text, "drop", *if_there, table.bytes()),
+        Stmt::Show(table) => put_head(text, "show", false, table.bytes()),
+        _ => text.push('?'),
+    }
+}
+
+fn put_head(
+    text: &mut String,
+    word: &str,
+    is_careful: bool,
+    table: &[u8],
+) -> Result<(), AllocError> {
+    text.push_str(word)?;
+    text.push_str(if is_careful { " if " } else { " " })?;
+    put_name(text, table)
+}
+
+fn put_spec(text: &mut String, spec: &TableSpec) -> Result<(), AllocError> {
+    for item in spec.items.items() {
+        text.push(' ')?;
+        put_item(text, item)?;
+    }
+    match &spec.by {
+        None => Ok(()),
+        Some(by) => put_by(text, by),
+    }
+}
