@@ -53,11 +53,29 @@ fn started(
     ensures rests { IfOk result (λ host. IsAtRest (world_in host).now.fs) }
 {
     let mut host = MemHost::from_image(alloc, directory, input)?;
-    order(alloc, &mut host, fault)?;
+    let ordered = order(alloc, &mut host, fault);
     if shift {
         take_one(&mut host);
     }
-    Ok(host)
+    beside(host, ordered)
+}
+
+/// A value that stands beside the answer of a call. It is let go here where that call failed.
+fn beside<T: Drop>(value: T, answer: Result<(), AllocError>) -> Result<T, AllocError>
+    ensures { IfOk result (λ kept. kept ≡ value) }
+{
+    match answer {
+        Ok(()) => Ok(value),
+        Err(error) => Err(error),
+    }
+}
+
+/// A host that was run over, beside how the run ended.
+fn ended<T: Drop>(host: T, ending: Result<Ending, AllocError>) -> Result<(Ending, T), AllocError> {
+    match ending {
+        Ok(ending) => Ok((ending, host)),
+        Err(error) => Err(error),
+    }
 }
 
 /// The words of a command line.
@@ -86,9 +104,24 @@ pub fn host_after(
     fault: Fault,
     shift: bool,
 ) -> Result<(Ending, MemHost), AllocError> {
-    let mut host = started(alloc, directory, input, fault, shift)?;
-    let ending = run_words(alloc, "run d", &mut host)?;
-    Ok((ending, host))
+    ran_words(
+        alloc,
+        "run d",
+        started(alloc, directory, input, fault, shift)?,
+    )
+}
+
+/// A host that was started, after a run of these words, and how it ended.
+fn ran_words(
+    alloc: Global,
+    command: &str,
+    mut host: MemHost,
+) -> Result<(Ending, MemHost), AllocError>
+    requires new { (world_in host).dir ≡ None }
+    requires at_rest { IsAtRest (world_in host).now.fs }
+{
+    let ending = run_words(alloc, command, &mut host);
+    ended(host, ending)
 }
 
 /// What was said, and the ending's status and line. Behind them stands what is there only where something went wrong: how
@@ -132,8 +165,7 @@ pub fn push_ending(text: &mut String, ending: &Ending) -> Result<(), AllocError>
 
 /// What a run over this directory and input says, with the ending's line behind it.
 pub fn said_over(alloc: Global, directory: &Image, input: &[u8]) -> Result<Vec<u8>, AllocError> {
-    let mut host = started(alloc, directory, input, Fault::Never, false)?;
-    let ending = run_words(alloc, "run d", &mut host)?;
+    let (ending, host) = host_after(alloc, directory, input, Fault::Never, false)?;
     said_by(alloc, &ending, &host)
 }
 
@@ -148,8 +180,19 @@ fn said_by(alloc: Global, ending: &Ending, host: &MemHost) -> Result<Vec<u8>, Al
 /// A run over the directory, which becomes the one that the run leaves.
 pub fn run_text(alloc: Global, directory: &mut Image, input: &[u8]) -> Result<String, AllocError> {
     let (ending, host) = host_after(alloc, directory, input, Fault::Never, false)?;
-    *directory = host.image_pick(0)?;
-    ran_text(alloc, &ending, &host)
+    leave(alloc, &ending, &host, directory)
+}
+
+/// What a run over the directory said. The directory becomes the one that it leaves.
+fn leave(
+    alloc: Global,
+    ending: &Ending,
+    host: &MemHost,
+    directory: &mut Image,
+) -> Result<String, AllocError> {
+    let left = host.image_pick(0)?;
+    *directory = left;
+    ran_text(alloc, ending, host)
 }
 
 /// A run over the directory, what it wrote, and whether a stop leaves the files as they were.
@@ -180,8 +223,8 @@ fn is_left(host: &MemHost, directory: &Image) -> Result<bool, AllocError> {
 /// A run of these words over a directory, and how many calls it made.
 pub fn words_text(alloc: Global, directory: &Image, command: &str) -> Result<String, AllocError> {
     let input = b"CREATE TABLE t (c INT)";
-    let mut host = started(alloc, directory, input, Fault::Never, false)?;
-    let ending = run_words(alloc, command, &mut host)?;
+    let host = started(alloc, directory, input, Fault::Never, false)?;
+    let (ending, host) = ran_words(alloc, command, host)?;
     made_text(alloc, &ending, &host)
 }
 
