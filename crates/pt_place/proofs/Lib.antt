@@ -6,3 +6,5 @@ pub mod PartNames
 pub mod Ranks
 pub mod Naming
 pub mod Positions
+pub mod Looks
+pub mod OneSpot

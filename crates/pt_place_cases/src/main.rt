@@ -5,6 +5,7 @@
 //! | `valid TABLE ITEM;..` | `valid`, or the code, the name and the argument of what is refused |
 //! | `place CELL,.. ITEM;..` | the positions of the partition and the subpartition of a row, and the name of the leaf, `-` where there is none; or `none` |
 //! | `among NAME,.. CELL,.. ITEM;..` | whether the spot of a row is among those named; `-` names none |
+//! | `laws` | `laws`: the functions whose contracts are theorems have returned |
 //!
 //! `definitions` says how the items of a definition are written and `trees` how an expression is. A cell is `N` for NULL, `i-7`, a day
 //! `d10957`, or bytes `xTEXT`, where `%` and two hexadecimal digits are a byte. A line without a word, or with a `#` at its front,
