@@ -2,7 +2,7 @@
 //!
 //! - `rows_of` gives the rows that the records leave, by rising serial (`SpellsRows`), or the place of the first record that isn't
 //!   proper (`IsBadAt`).
-//! - `put_bytes` and `delete_bytes` append exactly one record (`record_bytes`).
+//! - `put_bytes` and `delete_bytes` append exactly one record (`record_bytes`, `IsRecord`), so `appended` holds of it.
 //! - `one_record`: no record begins another, so bytes are those of one list of records at most; `appended` says what a record
 //!   behind a file's bytes leaves, and `one_file` that the rows are a function of the bytes.
 //! - `counter_of` is the next serial by the bytes of `serials.cnt`, or the place of their damage.
