@@ -5,3 +5,7 @@ pub mod Tuples
 pub mod PartNames
 pub mod Ranks
 pub mod Naming
+pub mod Reading
+pub mod Digits
+pub mod WrittenTuples
+pub mod KeyTexts

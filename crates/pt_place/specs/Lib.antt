@@ -10,3 +10,4 @@ pub mod Used
 pub mod Written
 pub mod WrittenParts
 pub mod Complete
+pub mod Reading
