@@ -8,3 +8,7 @@ pub mod Naming
 pub mod Positions
 pub mod Looks
 pub mod OneSpot
+pub mod Reading
+pub mod Digits
+pub mod WrittenTuples
+pub mod KeyTexts

@@ -11,3 +11,4 @@ pub mod Written
 pub mod WrittenParts
 pub mod Complete
 pub mod Laws
+pub mod Reading

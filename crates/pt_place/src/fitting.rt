@@ -43,7 +43,19 @@ fn int_in_range(kind: Kind, n: i64) -> bool
     }
 }
 
-fn day_in_range(kind: Kind, day: i32) -> bool
+/// The same of a number of any size.
+pub(crate) fn wide_in_range(kind: Kind, n: i128) -> bool
+    ensures { result ≡ is_in_range kind (Value.Int n) }
+{
+    match kind {
+        Kind::Int => -2_147_483_648 <= n && n <= 2_147_483_647,
+        Kind::BigInt => -9_223_372_036_854_775_808 <= n && n <= 9_223_372_036_854_775_807,
+        Kind::Date => true,
+        Kind::Binary(_) => true,
+    }
+}
+
+pub(crate) fn day_in_range(kind: Kind, day: i32) -> bool
     ensures { result ≡ is_in_range kind (Value.Day day) }
 {
     match kind {
@@ -54,7 +66,7 @@ fn day_in_range(kind: Kind, day: i32) -> bool
     }
 }
 
-fn bytes_in_range(kind: Kind, bytes: &[u8]) -> bool
+pub(crate) fn bytes_in_range(kind: Kind, bytes: &[u8]) -> bool
     ensures { result ≡ is_in_range kind (Value.Bytes bytes.now) }
 {
     match kind {

@@ -13,18 +13,28 @@
 
 mod bounds;
 mod columns;
+mod constants;
 mod fitting;
+mod key_texts;
 mod keys;
 mod kinds;
 mod laws;
+mod made_kinds;
 mod names;
 mod part_names;
 mod parts;
 mod placing;
+mod renamed;
 mod spot;
 mod used;
 mod validity;
 mod values;
+mod written_columns;
+mod written_counts;
+mod written_items;
+mod written_keys;
+mod written_kinds;
+mod written_tuples;
 
 pub use laws::{one_spot, storable_is_placed, taken_in_spot};
 pub use placing::place;

@@ -108,7 +108,7 @@ fn has_name(key: &KeyDef, columns: &Columns, name: &Ident) -> bool
 }
 
 /// The position of the first column of a name.
-fn column_of(columns: &Columns, name: &Ident) -> Option<usize>
+pub(crate) fn column_of(columns: &Columns, name: &Ident) -> Option<usize>
     ensures { result ≡ column_of columns.now name.now }
 {
     columns

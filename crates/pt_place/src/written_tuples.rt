@@ -1,0 +1,81 @@
+ghost use Rattle.std.specs.Prelude.{◌≡◌};
+ghost use Rattle.pt_place.specs.Complete.{has_item, is_out_item, is_wide_item, is_wrong_item, is_wrong_written};
+ghost use Rattle.pt_place.specs.Fitting.{kinds_of};
+
+use crate::values::{kind_of, width};
+use crate::written_items::{is_out_item, is_wide_item, is_wrong_item};
+use pt_ast::{BoundSpec, Columns, PartBy};
+use std::alloc::Global;
+
+/// Whether an item is wrong, or there aren't as many as there are kinds.
+pub(crate) fn is_wrong_written(
+    alloc: Global,
+    less: bool,
+    columns: &Columns,
+    by: &PartBy,
+    tuple: &[BoundSpec],
+) -> bool
+    ensures { result ≡ is_wrong_written less (kinds_of columns.now by.now) tuple.now }
+{
+    tuple.len() != width(columns, by) || has_wrong_item(alloc, less, columns, by, tuple)
+}
+
+fn has_wrong_item(
+    alloc: Global,
+    less: bool,
+    columns: &Columns,
+    by: &PartBy,
+    tuple: &[BoundSpec],
+) -> bool
+    ensures { result ≡ has_item (is_wrong_item less) (kinds_of columns.now by.now) tuple.now }
+{
+    for (at, item) in tuple.iter().enumerate() {
+        let Some(kind) = kind_of(columns, by, at) else {
+            return false;
+        };
+        if is_wrong_item(alloc, less, kind, item) {
+            return true;
+        }
+    }
+    false
+}
+
+/// Whether a number in an item may be too wide.
+pub(crate) fn has_wide_item(
+    alloc: Global,
+    columns: &Columns,
+    by: &PartBy,
+    tuple: &[BoundSpec],
+) -> bool
+    ensures { result ≡ has_item is_wide_item (kinds_of columns.now by.now) tuple.now }
+{
+    for (at, item) in tuple.iter().enumerate() {
+        let Some(kind) = kind_of(columns, by, at) else {
+            return false;
+        };
+        if is_wide_item(alloc, kind, item) {
+            return true;
+        }
+    }
+    false
+}
+
+/// Whether an item is a date text that is none, or too large.
+pub(crate) fn has_out_item(
+    alloc: Global,
+    columns: &Columns,
+    by: &PartBy,
+    tuple: &[BoundSpec],
+) -> bool
+    ensures { result ≡ has_item is_out_item (kinds_of columns.now by.now) tuple.now }
+{
+    for (at, item) in tuple.iter().enumerate() {
+        let Some(kind) = kind_of(columns, by, at) else {
+            return false;
+        };
+        if is_out_item(alloc, kind, item) {
+            return true;
+        }
+    }
+    false
+}
