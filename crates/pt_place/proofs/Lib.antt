@@ -9,3 +9,4 @@ pub mod Reading
 pub mod Digits
 pub mod WrittenTuples
 pub mod KeyTexts
+pub mod WrittenValues

@@ -31,6 +31,7 @@ mod written_items;
 mod written_keys;
 mod written_kinds;
 mod written_tuples;
+mod written_values;
 
 pub use placing::place;
 pub use spot::{in_set, leaf};
