@@ -12,3 +12,4 @@ pub mod Reading
 pub mod Digits
 pub mod WrittenTuples
 pub mod KeyTexts
+pub mod WrittenValues

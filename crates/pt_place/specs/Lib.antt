@@ -12,3 +12,4 @@ pub mod WrittenParts
 pub mod Complete
 pub mod Laws
 pub mod Reading
+pub mod ReadingValues

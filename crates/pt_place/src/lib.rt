@@ -35,6 +35,7 @@ mod written_items;
 mod written_keys;
 mod written_kinds;
 mod written_tuples;
+mod written_values;
 
 pub use laws::{one_spot, storable_is_placed, taken_in_spot};
 pub use placing::place;
