@@ -1,10 +1,11 @@
 -- The items of a tuple as written beside their kinds, one by one.
 use Rattle.std.proofs.Common.{◌≡◌, ℕ, zero, suc, ◌+◌, ◌<◌, ◌≤◌, Bool, true, false, ◌||◌, List, [], ◌∷◌, length, drop, get_or, Some, None, refl, sym, ap, ◌∙◌, arith, add-one}
-use Rattle.std.specs.List.{slice_get}
+use Rattle.std.specs.List.{list_any, slice_get}
+use Rattle.pt_ast.specs.declared.written.BoundSpec.TheVariants as written
 use Rattle.std.proofs.lemmas.List.{at_drop_all}
 use Rattle.pt_value.specs.declared.value.Kind.{Kind}
 use Rattle.pt_ast.specs.declared.written.BoundSpec.{BoundSpec}
-use Rattle.pt_place.specs.Complete.{has_item}
+use Rattle.pt_place.specs.Complete.{has_item, is_out_item, is_wide_item}
 
 module _ (test : Kind → BoundSpec → Bool) where
   pub has_step : (kinds : List Kind) (tuple : List BoundSpec) (i : ℕ) (k : Kind) (bound : BoundSpec) → i < length tuple → slice_get kinds i ≡ Some k → bound ≡ get_or tuple i bound
@@ -39,3 +40,26 @@ module _ (test : Kind → BoundSpec → Bool) where
 
   pub items_end : (kinds : List Kind) (tuple : List BoundSpec) (i : ℕ) (all : Bool) → length tuple ≤ i → has_item test (drop i kinds) (drop i tuple) ≡ all → false ≡ all
   items_end kinds tuple i all past kept = sym (no_items (drop i kinds)) ∙ sym (at_drop_all (has_item test (drop i kinds)) tuple i past) ∙ kept
+
+-- ---- a tuple of one item
+
+module _ (test : Kind → BoundSpec → Bool) where
+  alone : (b : Bool) → (b || false) ≡ b
+  alone true = refl
+  alone false = refl
+
+  pub one_item : (kinds : List Kind) (k : Kind) (bound : BoundSpec) → slice_get kinds 0 ≡ Some k → test k bound ≡ has_item test kinds (bound ∷ [])
+  one_item [] k bound here = cc
+  one_item (own ∷ kinds) k bound here = let is : own ≡ k = cc in rw is (sym (ap (λ b. test k bound || b) (no_items test kinds) ∙ alone (test k bound)))
+
+  pub no_item : (kinds : List Kind) (bound : BoundSpec) → slice_get kinds 0 ≡ None → false ≡ has_item test kinds (bound ∷ [])
+  no_item [] bound none = refl
+  no_item (own ∷ kinds) bound none = cc
+
+pub max_wide : (kinds : List Kind) → list_any (has_item is_wide_item kinds) ((written.Max ∷ []) ∷ []) ≡ false
+max_wide [] = refl
+max_wide (own ∷ kinds) = rw (no_items is_wide_item kinds) refl
+
+pub max_out : (kinds : List Kind) → list_any (has_item is_out_item kinds) ((written.Max ∷ []) ∷ []) ≡ false
+max_out [] = refl
+max_out (own ∷ kinds) = rw (no_items is_out_item kinds) refl
