@@ -5,4 +5,5 @@ pub mod Records
 pub mod Kept
 pub mod Files
 pub mod Whole
+pub mod Placing
 pub mod WrittenParts

@@ -24,7 +24,7 @@ Head = (ℕ × ℕ) × List ℕ
 
 -- # What is written is read
 
-head_front : (kind serial : ℕ) (rest : List ℕ) → serial < 256 ^ 8 → head_at (kind ∷ (le_bytes 8 serial ++ rest)) ≡ Some ((kind, serial), rest)
+pub head_front : (kind serial : ℕ) (rest : List ℕ) → serial < 256 ^ 8 → head_at (kind ∷ (le_bytes 8 serial ++ rest)) ≡ Some ((kind, serial), rest)
 unfolding head_at
 head_front kind serial rest fits = ap (option_map (λ (read : ℕ × List ℕ). ((kind, read.0), read.1))) (number_front 8 serial rest fits)
 

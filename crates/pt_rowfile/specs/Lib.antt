@@ -2,6 +2,7 @@ pub mod Cells
 pub mod Records
 pub mod Rows
 pub mod Written
+pub mod Placed
 pub mod Counter
 pub mod Laws
 pub mod Faults
@@ -9,3 +10,4 @@ pub mod Reader
 pub mod Taking
 pub mod Kept
 pub mod SoFar
+pub mod OnPlace

@@ -61,6 +61,14 @@ unfoldable pub head_at : List ℕ → Option ((ℕ × ℕ) × List ℕ)
 head_at [] = None
 head_at (kind ∷ bytes) = option_map (λ read. ((kind, read.0), read.1)) (number_at 8 bytes)
 
+-- the kind and the serial of a body
+unfoldable pub head_of : List ℕ → Option (ℕ × ℕ)
+head_of body = option_map (λ read. read.0) (head_at body)
+
+-- the kind and the serial of the record in front, and the bytes behind the record
+unfoldable pub headed_at : List ℕ → Option ((ℕ × ℕ) × List ℕ)
+headed_at bytes = option_and_then (λ parts. option_map (λ head. (head, parts.1)) (head_of parts.0)) (counted_at 4 bytes)
+
 unfoldable pub record_of_kind : (ℕ × ℕ) × List ℕ → Option Record
 record_of_kind head = if head.0.0 == 1 then put_of head.0.1 head.1 else (if head.0.0 == 2 then delete_of head.0.1 head.1 else None)
 

@@ -1,7 +1,7 @@
 ghost use Rattle.std.specs.Prelude.{◌≡◌, IfOk, IfSome, length, nat_eq};
 ghost use Rattle.std.specs.Option.{option_map};
 ghost use Rattle.pt_bytes.specs.Numbers.{number_of};
-ghost use Rattle.pt_rowfile.specs.Reader.{cell_at, cells_at, counted_at, day_at, head_at, int_at, number_at, put_of, delete_of, record_at, record_of, split, text_at};
+ghost use Rattle.pt_rowfile.specs.Reader.{cell_at, cells_at, counted_at, day_at, head_at, head_of as head_in, headed_at, int_at, number_at, put_of, delete_of, record_at, record_of, split, text_at};
 ghost use Rattle.pt_rowfile.specs.Taking.{Takes, TakesByte};
 
 use crate::record::Record;
@@ -214,6 +214,25 @@ impl<'a> Source<'a> {
         };
         record_of(alloc, body)
     }
+
+    /// The kind and the serial of a record, which is passed over.
+    #[tactic(auto, unfolding(crate::specs::Reader::headed_at))]
+    pub(crate) fn headed(&mut self) -> Option<(u8, u64)>
+        ensures { Takes result self.new (headed_at self.old) }
+    {
+        let body = self.body()?;
+        let head = head_of(body)?;
+        Some(head)
+    }
+}
+
+/// The kind and the serial of the record that has this body.
+#[tactic(auto, unfolding(crate::specs::Reader::head_of))]
+fn head_of(body: &[u8]) -> Option<(u8, u64)>
+    ensures { result ≡ head_in body.now }
+{
+    let head = Source::new(body).head()?;
+    Some(head)
 }
 
 /// The record that has this body.

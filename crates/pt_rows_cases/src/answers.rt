@@ -1,5 +1,5 @@
 use crate::books::put_book;
-use crate::files::{put_counter, put_deleted, put_many, put_put, put_rows};
+use crate::files::{put_counter, put_deleted, put_many, put_placed, put_put, put_rows};
 use pt_rowfile::{appended, one_record};
 use pt_unique::agreeing;
 use std::alloc::{AllocError, Global};
@@ -14,6 +14,7 @@ pub fn answer(alloc: Global, out: &mut String, line: &str) -> Result<(), AllocEr
         "rows" => put_rows(alloc, out, rest),
         "put" => put_put(alloc, out, rest),
         "delete" => put_deleted(alloc, out, rest),
+        "place" => put_placed(alloc, out, rest),
         "counter" => put_counter(alloc, out, rest),
         "many" => put_many(alloc, out, rest),
         "book" => put_book(alloc, out, rest),

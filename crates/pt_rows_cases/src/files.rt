@@ -2,7 +2,7 @@ use crate::answers::split;
 use crate::cells::{bytes_of, put_hex, put_row, row_of};
 use crate::short::is_short_row;
 use pt_ast::{Cells, Row, Rows};
-use pt_rowfile::{RowFault, counter_of, delete_bytes, put_bytes, rows_of};
+use pt_rowfile::{RowFault, counter_of, delete_bytes, put_bytes, put_place, rows_of};
 use pt_value::Value;
 use std::alloc::{AllocError, Global};
 
@@ -62,6 +62,26 @@ pub fn put_deleted(alloc: Global, out: &mut String, text: &str) -> Result<(), Al
     let mut bytes = Vec::new(alloc);
     delete_bytes(&mut bytes, serial)?;
     put_hex(out, &bytes)
+}
+
+/// Writes where the row of a serial was put.
+pub fn put_placed(alloc: Global, out: &mut String, text: &str) -> Result<(), AllocError> {
+    let (serial, spelled) = split(text);
+    let Ok(serial) = serial.parse::<u64>() else {
+        return out.push('?');
+    };
+    let bytes = bytes_of(alloc, spelled)?;
+    match place_in(alloc, &bytes, serial) {
+        Ok(Some(place)) => write!(out, "{place}"),
+        Ok(None) => out.push_str("none"),
+        Err(fault) => put_fault(out, fault),
+    }
+}
+
+/// The place of a row, where the bytes leave rows.
+fn place_in(alloc: Global, bytes: &[u8], serial: u64) -> Result<Option<u64>, RowFault> {
+    rows_of(alloc, bytes)?;
+    Ok(put_place(bytes, serial))
 }
 
 /// Writes the next serial.

@@ -5,6 +5,7 @@
 //! | `rows HEX` | the rows that the bytes leave, each `SERIAL:CELL,..`, with a space before each but the first; or `bad` and the place |
 //! | `put SERIAL CELL,..` | the bytes of the record that puts the row, or `?` where it can't be written |
 //! | `delete SERIAL` | the bytes of the record that deletes it |
+//! | `place SERIAL HEX` | the place of the record that put the row of this serial, or `none`; or `bad` and the place of the damage |
 //! | `counter HEX` | `next` and the next serial, or `bad` and the place |
 //! | `many N` | N puts and a delete of every second one are read: how many rows are left, and the first serial and the last |
 //! | `book KEYS STEPS` | what each step on a key book answers: `ok`, `taken` and the serial, or `left` |
