@@ -1,4 +1,5 @@
-//! Bytes that are added to files of a map, with a fault in each call of it too, and which chains of acts are clean.
+//! Bytes that are added to files of a map and acts that are done to it, with a fault in each call of either too, and which chains
+//! of acts are clean.
 ghost use Rattle.std.specs.Prelude.{◌≡◌, ◌↔◌, IsTrue, IsSome, None, All};
 ghost use Rattle.pt_host.specs.Disk.{IsAtRest};
 ghost use Rattle.pt_host.specs.Listed.{AreRising};
@@ -7,6 +8,7 @@ ghost use Rattle.pt_store.specs.Batch.{IsBatch};
 ghost use Rattle.pt_store.specs.Entries.{length_in};
 ghost use Rattle.pt_store.specs.Store.{HasMap, is_live, sizes};
 
+use crate::allowed::{is_held, may_reshape};
 use crate::faults::{fail_call, others_in};
 use crate::maps::{left_text, map_text, stop_text};
 use crate::texts::image_of;
@@ -17,7 +19,14 @@ use pt_plain::List;
 use pt_store::{Stop, Store};
 use std::alloc::{AllocError, Global};
 
-/// Which calls of an append fail, counted from 0: one, or each from one on.
+/// A change of a map: the bytes that are added to its files, or the fresh bytes and the acts.
+#[derive(Clone, Copy)]
+pub(crate) enum Change<'a> {
+    Append(&'a Image),
+    Reshape(&'a Image, &'a Chain),
+}
+
+/// Which calls of a change fail, counted from 0: one, or each from one on.
 #[derive(Clone, Copy)]
 enum Failing {
     Never,
@@ -52,7 +61,7 @@ fn clean_word(chain: &Chain) -> &'static str {
 }
 
 /// The acts that are written `delete:NAME`, `rename:FROM:TO`, `replace:FROM:TO` and `exchange:A:B`.
-fn chain_of(alloc: Global, text: &str) -> Result<Option<Chain>, AllocError> {
+pub(crate) fn chain_of(alloc: Global, text: &str) -> Result<Option<Chain>, AllocError> {
     let mut acts = List::new(alloc);
     for word in text.split_whitespace() {
         let Some(act) = act_of(word) else {
@@ -108,7 +117,8 @@ pub(crate) fn append_answer(
         return String::from_str(alloc, "no files");
     };
     let mut host = MemHost::from_image(alloc, &image, b"")?;
-    let text = match append_in(alloc, &mut host, &batch, Failing::Never) {
+    let change = Change::Append(&batch);
+    let text = match change_in(alloc, &mut host, change, Failing::Never) {
         Ok((word, calls)) => format!(in alloc; "{word} calls {calls}")?,
         Err(stop) => stop_text(alloc, &stop)?,
     };
@@ -126,12 +136,17 @@ pub(crate) fn stops_answer(
     else {
         return String::from_str(alloc, "no files");
     };
-    stops_over(alloc, &image, &batch)
+    stops_over(alloc, &image, Change::Append(&batch))
 }
 
-fn stops_over(alloc: Global, image: &Image, batch: &Image) -> Result<String, AllocError> {
+/// The same of any change.
+pub(crate) fn stops_over(
+    alloc: Global,
+    image: &Image,
+    change: Change<'_>,
+) -> Result<String, AllocError> {
     let old = map_text(alloc, image)?;
-    let (calls, new) = whole_run(alloc, image, batch)?;
+    let (calls, new) = whole_run(alloc, image, change)?;
     let mut tally = Tally {
         runs: 0,
         done: 0,
@@ -140,17 +155,21 @@ fn stops_over(alloc: Global, image: &Image, batch: &Image) -> Result<String, All
     };
     for number in 0..calls {
         let maps = (old.as_str(), new.as_str());
-        tally = run(alloc, image, batch, Failing::One(number), maps, tally)?;
-        tally = run(alloc, image, batch, Failing::From(number), maps, tally)?;
+        tally = run(alloc, image, change, Failing::One(number), maps, tally)?;
+        tally = run(alloc, image, change, Failing::From(number), maps, tally)?;
     }
     let (runs, done, live, other) = (tally.runs, tally.done, tally.live, tally.other);
     format!(in alloc; "runs {runs} done {done} live {live} other {other}")
 }
 
-/// How many calls the append makes, and the map that it leaves.
-fn whole_run(alloc: Global, image: &Image, batch: &Image) -> Result<(u64, String), AllocError> {
+/// How many calls the change makes, and the map that it leaves.
+fn whole_run(
+    alloc: Global,
+    image: &Image,
+    change: Change<'_>,
+) -> Result<(u64, String), AllocError> {
     let mut host = MemHost::from_image(alloc, image, b"")?;
-    let calls = match append_in(alloc, &mut host, batch, Failing::Never) {
+    let calls = match change_in(alloc, &mut host, change, Failing::Never) {
         Ok((_, calls)) => calls,
         Err(_) => 0,
     };
@@ -163,13 +182,13 @@ fn whole_run(alloc: Global, image: &Image, batch: &Image) -> Result<(u64, String
 fn run(
     alloc: Global,
     image: &Image,
-    batch: &Image,
+    change: Change<'_>,
     failing: Failing,
     maps: (&str, &str),
     tally: Tally,
 ) -> Result<Tally, AllocError> {
     let mut host = MemHost::from_image(alloc, image, b"")?;
-    let word = match append_in(alloc, &mut host, batch, failing) {
+    let word = match change_in(alloc, &mut host, change, failing) {
         Ok((word, _)) => word,
         Err(_) => "not opened",
     };
@@ -188,11 +207,11 @@ fn tallied(tally: Tally, word: &str, other: u64) -> Tally {
     }
 }
 
-/// What an append answers, whether the store is live, and how many calls it made.
-fn append_in(
+/// What a change answers, whether the store is live, and how many calls it made.
+fn change_in(
     alloc: Global,
     host: &mut MemHost,
-    batch: &Image,
+    change: Change<'_>,
     failing: Failing,
 ) -> Result<(&'static str, u64), Stop>
     requires outside { (world_in host.old).dir ≡ None }
@@ -202,7 +221,7 @@ fn append_in(
     let mut store = Store::attach(alloc, host)?;
     arm(alloc, host, failing)?;
     let before = host.calls();
-    let word = append(&mut store, host, &batch.files);
+    let word = do_change(&mut store, host, change);
     Ok((word, host.calls().saturating_sub(before)))
 }
 
@@ -219,6 +238,16 @@ fn arm(alloc: Global, host: &mut MemHost, failing: Failing) -> Result<(), AllocE
     }
 }
 
+fn do_change(store: &mut Store, host: &mut MemHost, change: Change<'_>) -> &'static str
+    requires live { IsTrue (is_live store.old) }
+    requires stands { HasMap store.old (world_in host.old) }
+{
+    match change {
+        Change::Append(batch) => append(store, host, &batch.files),
+        Change::Reshape(fresh, chain) => reshape(store, host, &fresh.files, chain),
+    }
+}
+
 fn append(store: &mut Store, host: &mut MemHost, batch: &FileList) -> &'static str
     requires live { IsTrue (is_live store.old) }
     requires stands { HasMap store.old (world_in host.old) }
@@ -228,7 +257,23 @@ fn append(store: &mut Store, host: &mut MemHost, batch: &FileList) -> &'static s
         return "unfit";
     }
     let answer = store.append(host, batch);
-    match (answer, store.is_live()) {
+    answer_word(answer, store.is_live())
+}
+
+fn reshape(store: &mut Store, host: &mut MemHost, fresh: &FileList, chain: &Chain) -> &'static str
+    requires live { IsTrue (is_live store.old) }
+    requires stands { HasMap store.old (world_in host.old) }
+    requires rising { AreRising fresh.now }
+{
+    if !may_reshape(store, fresh.items(), chain) {
+        return "outside";
+    }
+    let answer = store.reshape(host, fresh, chain);
+    answer_word(answer, store.is_live())
+}
+
+fn answer_word(answer: Result<(), Stop>, live: bool) -> &'static str {
+    match (answer, live) {
         (Ok(()), true) => "done live",
         (Ok(()), false) => "done spent",
         (Err(Stop::Fault), true) => "fault live",
@@ -252,10 +297,4 @@ fn are_held(store: &Store, parts: &[(Name, List<u8>)]) -> bool
     ensures { IsTrue result ↔ All (λ part. IsSome (length_in (sizes store.now) part.0)) parts.now }
 {
     parts.iter().all(|part| is_held(store, &part.0))
-}
-
-fn is_held(store: &Store, name: &Name) -> bool
-    ensures { IsTrue result ↔ IsSome (length_in (sizes store.now) name.now) }
-{
-    store.length(name).is_some()
 }

@@ -1,7 +1,8 @@
 //! Asks the store and the files of tables one question a line, and prints one answer a line.
 //!
 //! An empty line and a line that begins with `#` are printed as they stand. BYTES are bytes as they stand, where `%` and two
-//! hexadecimal digits are one, and FILE is `NAME=BYTES`.
+//! hexadecimal digits are one, and FILE is `NAME=BYTES`. ACT is `delete:NAME`, `rename:FROM:TO`, `replace:FROM:TO` or
+//! `exchange:A:B`.
 //!
 //! | Line | Answer |
 //! |---|---|
@@ -21,6 +22,8 @@
 //! | `replace FILE..` | puts this map in the place of the one of the directory, which is from then on what is left: how many calls it took, whether the store is live, how many name operations are pending, in how many calls memory was wanting, and what the same store reads back |
 //! | `append FILE..` | adds these bytes at the ends of these files of its map, which is from then on what is left: the answer, whether the store is live and how many calls it took; `unfit` where the map lacks one |
 //! | `stops FILE..` | the same append once more for each of its calls with a fault in that call, and with one in each call from that one on: how many runs, how many didn't answer `fault` with a spent store, how many left it live, and how many images that a stop may then leave show another map than the old one and the new one |
+//! | `reshape ACT.. / FILE..` | does these acts to its map with these fresh bytes, which is from then on what is left: how many calls it took, whether the store is live, how many name operations are pending, in how many calls memory was wanting, and what the same store reads back; `outside` where `Store::reshape` may not be asked so |
+//! | `reshapestops ACT.. / FILE..` | of that reshape what `stops` tells of an append |
 //! | `fault NUMBER SHIFT FILE..` | the same replacement with a fault in its call of this number, counted from 0, and with SHIFT 1 after one call more: the answer, whether the store is live, and of the images that a stop may then leave how many were opened, how many show the old map, the new one, and another |
 //!
 //! | Line without the directory | Answer |
@@ -32,16 +35,18 @@
 //! | `next BYTES` | the next serial by `next_of`, or `none` |
 //! | `counter N` | the bytes by `counter_bytes` |
 //! | `made STEP..` | the files by `files_of` of the database that these steps make: `TABLE=COLUMN` creates, `TABLE+VALUE` inserts |
-//! | `clean ACT..` | whether these acts, written `delete:NAME`, `rename:FROM:TO`, `replace:FROM:TO` and `exchange:A:B`, are a clean chain |
+//! | `clean ACT..` | whether these acts are a clean chain |
 //! | `laws` | calls the functions whose clauses are theorems |
 //!
 //! It stands on `pt_store`, `pt_ddl_log`, `pt_table_files` and `pt_flat`, and on `pt_memhost` for the host.
 #![tactic(auto)]
 
+mod allowed;
 mod changing;
 mod faults;
 mod maps;
 mod replacing;
+mod reshaping;
 mod tables;
 mod texts;
 
@@ -68,6 +73,7 @@ fn answer(alloc: Global, directory: &mut String, line: &str) -> Result<String, A
         }
         "replace" => replacing::answer(alloc, directory, rest),
         "append" => changing::append_answer(alloc, directory, rest),
+        "reshape" => reshaping::answer(alloc, directory, rest),
         _ => answer_about(alloc, directory.as_str(), word, rest, line),
     }
 }
@@ -86,6 +92,7 @@ fn answer_about(
         "left" => maps::left_answer(alloc, directory),
         "fault" => faults::answer(alloc, directory, rest),
         "stops" => changing::stops_answer(alloc, directory, rest),
+        "reshapestops" => reshaping::stops_answer(alloc, directory, rest),
         "clean" => changing::clean_answer(alloc, rest),
         "laws" => {
             laws();

@@ -74,7 +74,7 @@ fn replace(
     Ok(format!(in alloc; "{counts} {map}")?)
 }
 
-fn counts_text(
+pub(crate) fn counts_text(
     alloc: Global,
     host: &MemHost,
     before: u64,
