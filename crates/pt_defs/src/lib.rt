@@ -1,13 +1,10 @@
-//! Definitions of tables: their bytes, both ways, and their text.
+//! Definitions of tables: their bytes, both ways.
 //!
 //! - `def_bytes` writes the one spelling of a definition (`Spells` of `specs/Spelling.antt`).
 //! - `def_of_bytes` reads it, field by field in the order of the file, and tells the place of the first field that can't be read
 //!   (`def_at` of `specs/Reading.antt`).
-//! - `show_create` gives the text of SHOW CREATE TABLE (`shown_table` of `specs/Show.antt`).
-//! - `same_structure` tells whether two tables may exchange rows (`same_structure` of `specs/Structure.antt`).
 //!
-//! Writing and reading take memory in proportion to the definition, `same_structure` none. It stands on `pt_ast`, and on `pt_bytes`
-//! for numbers.
+//! Writing and reading take memory in proportion to the definition. It stands on `pt_ast`, and on `pt_bytes` for numbers.
 #![tactic(auto)]
 
 /// What is read, or the stop handed on. The borrow checker doesn't cover `?` at a value that holds a name beside a reference.
@@ -27,12 +24,8 @@ mod get_item;
 mod put_def;
 mod put_expr;
 mod put_item;
-mod show;
-mod show_expr;
-mod structure;
 
 pub use fault::DefRead;
 pub use get_def::def_of_bytes;
 pub use put_def::def_bytes;
-pub use show::show_create;
-pub use structure::same_structure;
+pub use put_item::rank_code;

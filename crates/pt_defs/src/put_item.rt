@@ -133,7 +133,8 @@ pub(crate) fn put_key(out: &mut Vec<u8>, key: &KeyDef) -> Result<(), AllocError>
     put_positions(out, &key.columns)
 }
 
-pub(crate) fn rank_code(rank: Rank) -> u8
+/// The byte that stands for the rank of a key.
+pub fn rank_code(rank: Rank) -> u8
     ensures { result ≡ rank_code rank }
 {
     match rank {

@@ -1,7 +1,8 @@
 use crate::answers::{put_plain, split};
 use pt_ast::TableDef;
 use pt_bytes::{put_bytes, put_u64};
-use pt_defs::{DefRead, def_of_bytes, same_structure, show_create};
+use pt_defs::{DefRead, def_of_bytes};
+use pt_show::{same_structure, show_create};
 use pt_value::Ident;
 use std::alloc::{AllocError, Global};
 

@@ -14,7 +14,7 @@
 //! A body is all that follows the length of a definition file, in hexadecimal digits; `file` takes a whole file. A line without a
 //! word, or with a `#` at its front, is printed as it stands, and one that isn't written so is answered by `?`.
 //!
-//! It stands on `pt_defs` and `pt_names`.
+//! It stands on `pt_defs`, `pt_show` and `pt_names`.
 #![tactic(auto)]
 
 mod answers;
