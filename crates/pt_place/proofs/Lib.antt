@@ -8,8 +8,3 @@ pub mod Naming
 pub mod Positions
 pub mod Looks
 pub mod OneSpot
-pub mod Reading
-pub mod Digits
-pub mod WrittenTuples
-pub mod KeyTexts
-pub mod WrittenValues

@@ -7,9 +7,4 @@ pub mod Placing
 pub mod Valid
 pub mod Lacking
 pub mod Used
-pub mod Written
-pub mod WrittenParts
-pub mod Complete
 pub mod Laws
-pub mod Reading
-pub mod ReadingValues

@@ -44,7 +44,7 @@ fn int_in_range(kind: Kind, n: i64) -> bool
 }
 
 /// The same of a number of any size.
-pub(crate) fn wide_in_range(kind: Kind, n: i128) -> bool
+pub fn wide_in_range(kind: Kind, n: i128) -> bool
     ensures { result ≡ is_in_range kind (Value.Int n) }
 {
     match kind {
@@ -55,7 +55,8 @@ pub(crate) fn wide_in_range(kind: Kind, n: i128) -> bool
     }
 }
 
-pub(crate) fn day_in_range(kind: Kind, day: i32) -> bool
+/// Whether a column of this kind has room for this day, counted from 1970-01-01, or is of another kind. It takes no memory.
+pub fn day_in_range(kind: Kind, day: i32) -> bool
     ensures { result ≡ is_in_range kind (Value.Day day) }
 {
     match kind {
@@ -66,7 +67,8 @@ pub(crate) fn day_in_range(kind: Kind, day: i32) -> bool
     }
 }
 
-pub(crate) fn bytes_in_range(kind: Kind, bytes: &[u8]) -> bool
+/// Whether a column of this kind has room for these bytes, or is of another kind. It takes no memory.
+pub fn bytes_in_range(kind: Kind, bytes: &[u8]) -> bool
     ensures { result ≡ is_in_range kind (Value.Bytes bytes.now) }
 {
     match kind {
@@ -83,13 +85,15 @@ pub(crate) fn is_null(value: &Value) -> bool
     matches!(value, Value::Null)
 }
 
-pub(crate) fn is_primary(rank: Rank) -> bool
+/// Whether a key of this rank is the primary one. It takes no memory.
+pub fn is_primary(rank: Rank) -> bool
     ensures { result ≡ is_primary_rank rank }
 {
     matches!(rank, Rank::Primary)
 }
 
-pub(crate) fn is_unique(rank: Rank) -> bool
+/// Whether a key of this rank is unique, but not the primary one. It takes no memory.
+pub fn is_unique(rank: Rank) -> bool
     ensures { result ≡ is_unique_rank rank }
 {
     matches!(rank, Rank::Unique)

@@ -8,7 +8,7 @@ use crate::used::uses;
 use pt_ast::{Arg, KeyDef, Refusal, TableDef};
 
 /// A unique key without a column that the partitioning or the subpartitioning uses, the primary key first.
-pub(crate) fn lacking_key(def: &TableDef) -> Option<Refusal>
+pub fn lacking_key(def: &TableDef) -> Option<Refusal>
     ensures { result ≡ lacking_key def.now.columns def.now.keys def.now.by def.now.sub }
 {
     let keys = def.keys.items();

@@ -33,7 +33,7 @@ pub(crate) fn bad_kinds(table: &Ident, def: &TableDef) -> Option<Refusal>
 }
 
 /// SUBPARTITION BY under HASH or KEY.
-pub(crate) fn sub_of_number(table: &Ident, by: &PartBy, sub: &PartBy) -> Option<Refusal>
+pub fn sub_of_number(table: &Ident, by: &PartBy, sub: &PartBy) -> Option<Refusal>
     ensures { result ≡ sub_of_number table.now by.now sub.now }
 {
     if is_by_number(by) && !is_whole(sub) {
@@ -55,14 +55,14 @@ pub(crate) fn is_whole(by: &PartBy) -> bool
 }
 
 /// By RANGE, with or without COLUMNS.
-pub(crate) fn is_range(by: &PartBy) -> bool
+pub fn is_range(by: &PartBy) -> bool
     ensures { result ≡ is_range by.now }
 {
     matches!(by, PartBy::Range(_) | PartBy::RangeColumns(_))
 }
 
 /// KEY without columns.
-pub(crate) fn key_of_none(by: &PartBy) -> Option<Refusal>
+pub fn key_of_none(by: &PartBy) -> Option<Refusal>
     ensures { result ≡ key_of_none by.now }
 {
     match by {
@@ -90,7 +90,7 @@ fn bad_by(table: &Ident, columns: &Columns, by: &PartBy) -> Option<Refusal>
 }
 
 /// The first fault of an expression; and then it has to be an integer and name a column.
-pub(crate) fn bad_expr(table: &Ident, columns: &Columns, expr: &Expr) -> Option<Refusal>
+pub fn bad_expr(table: &Ident, columns: &Columns, expr: &Expr) -> Option<Refusal>
     ensures { result ≡ bad_expr table.now columns.now expr.now }
 {
     match check(columns, expr, false) {

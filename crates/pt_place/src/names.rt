@@ -9,14 +9,14 @@ use pt_ast::{Arg, Column, Columns, Refusal};
 use pt_value::Ident;
 
 /// Whether two names are the same but for the case of their letters.
-pub(crate) fn same(a: &Ident, b: &Ident) -> bool
+pub fn same(a: &Ident, b: &Ident) -> bool
     ensures { result ≡ str_eq_ignore_ascii_case a.now b.now }
 {
     a.same(b)
 }
 
 /// Whether a name is one of these.
-pub(crate) fn is_among(name: &Ident, names: &[Ident]) -> bool
+pub fn is_among(name: &Ident, names: &[Ident]) -> bool
     ensures { result ≡ is_among name.now names.now }
 {
     names.iter().any(|other| same(name, other))

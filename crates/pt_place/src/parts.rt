@@ -62,7 +62,7 @@ fn leaf_count(sub: &PartBy, parts: &[PartDef]) -> u64
 }
 
 /// More than 8192.
-pub(crate) fn too_many(count: u64) -> Option<Refusal>
+pub fn too_many(count: u64) -> Option<Refusal>
     ensures { result ≡ too_many count }
 {
     if count > 8192 {

@@ -10,7 +10,7 @@ use pt_ast::{Columns, Expr, KeyDef, PartBy};
 use pt_value::Ident;
 
 /// Whether an expression names a column.
-pub(crate) fn names_column(expr: &Expr) -> bool
+pub fn names_column(expr: &Expr) -> bool
     ensures { result ≡ is_some_name (names_in expr.now) }
 {
     match expr {
@@ -108,7 +108,7 @@ fn has_name(key: &KeyDef, columns: &Columns, name: &Ident) -> bool
 }
 
 /// The position of the first column of a name.
-pub(crate) fn column_of(columns: &Columns, name: &Ident) -> Option<usize>
+pub fn column_of(columns: &Columns, name: &Ident) -> Option<usize>
     ensures { result ≡ column_of columns.now name.now }
 {
     columns

@@ -112,7 +112,7 @@ fn is_bound_out(kind: Kind, bound: &Bound) -> bool
 }
 
 /// How many items a tuple has.
-pub(crate) fn width(columns: &Columns, by: &PartBy) -> usize
+pub fn width(columns: &Columns, by: &PartBy) -> usize
     ensures { result ≡ length (kinds_of columns.now by.now) }
 {
     match by {
@@ -124,7 +124,7 @@ pub(crate) fn width(columns: &Columns, by: &PartBy) -> usize
 }
 
 /// The kind of the item at a place, if there are so many.
-pub(crate) fn kind_of(columns: &Columns, by: &PartBy, at: usize) -> Option<Kind>
+pub fn kind_of(columns: &Columns, by: &PartBy, at: usize) -> Option<Kind>
     ensures { result ≡ slice_get (kinds_of columns.now by.now) at }
 {
     match by {

@@ -1,0 +1,5 @@
+pub mod Reading
+pub mod Digits
+pub mod WrittenTuples
+pub mod KeyTexts
+pub mod WrittenValues
