@@ -12,7 +12,7 @@ use Rattle.pt_ast.specs.declared.table.KeyDef.{KeyDef}
 use Rattle.pt_ast.specs.declared.table.TableDef.{TableDef}
 use Rattle.pt_defs.specs.Spelling.{flag, rank_code}
 
--- a type as two numbers: which it is, and the greatest length of a VARBINARY
+-- a type as a number: two types have the same one exactly where they are the same, the greatest length of a VARBINARY counted
 abbrev pub kind_code : Kind → ℕ
 kind_code kind.Int = 1
 kind_code kind.BigInt = 2
