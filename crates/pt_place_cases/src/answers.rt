@@ -1,4 +1,8 @@
+use crate::bounds::{put_list, put_list_columns, put_range, put_range_columns, put_step};
+use crate::numbers::{put_key, put_parts, put_split};
 use crate::told::{put_among, put_refusal, put_spot};
+use pt_bounds::{one_list, one_tuple};
+use pt_hash::{linear_split, one_power, one_residue};
 use pt_place::{one_spot, storable_is_placed, taken_in_spot};
 use std::alloc::{AllocError, Global};
 
@@ -13,12 +17,32 @@ pub fn answer(alloc: Global, out: &mut String, line: &str) -> Result<(), AllocEr
         "place" => put_spot(alloc, out, rest),
         "among" => put_among(alloc, out, rest),
         "laws" => put_laws(out),
+        _ => put_rule(alloc, out, word, rest),
+    }
+}
+
+/// Writes the answer of a line of one rule.
+fn put_rule(alloc: Global, out: &mut String, word: &str, rest: &str) -> Result<(), AllocError> {
+    match word {
+        "parts" => put_parts(out, rest),
+        "key" => put_key(alloc, out, rest),
+        "split" => put_split(out, rest),
+        "range" => put_range(alloc, out, rest),
+        "rangecolumns" => put_range_columns(alloc, out, rest),
+        "steps" => put_step(alloc, out, rest),
+        "list" => put_list(alloc, out, rest),
+        "listcolumns" => put_list_columns(alloc, out, rest),
         _ => out.push('?'),
     }
 }
 
 /// The theorems do nothing.
 fn put_laws(out: &mut String) -> Result<(), AllocError> {
+    linear_split();
+    one_power();
+    one_residue();
+    one_tuple();
+    one_list();
     storable_is_placed();
     one_spot();
     taken_in_spot();

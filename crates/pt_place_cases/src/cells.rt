@@ -1,5 +1,5 @@
 use crate::text::bytes_of;
-use pt_ast::Cells;
+use pt_ast::{Cells, ColumnNos};
 use pt_value::{Bin, Kind, Value};
 use std::alloc::{AllocError, Global};
 
@@ -39,4 +39,23 @@ pub fn kind_of(text: &str) -> Option<Kind> {
             Some(Kind::Binary(most.parse::<u16>().ok()?))
         }
     }
+}
+
+/// The positions of columns with commas between.
+pub fn columns_of(alloc: Global, text: &str) -> Result<ColumnNos, AllocError> {
+    let mut columns = ColumnNos::new(alloc);
+    for number in text.split(',') {
+        if let Ok(number) = number.parse::<u32>() {
+            columns.push(number)?;
+        }
+    }
+    Ok(columns)
+}
+
+/// The value of an expression: digits, or `N`.
+pub fn number_of(text: &str) -> Option<Option<i128>> {
+    if text == "N" {
+        return Some(None);
+    }
+    Some(Some(text.parse::<i128>().ok()?))
 }

@@ -1,7 +1,7 @@
 use crate::reading::{cond_text, expr_text};
+use crate::scripts::script_answer;
 use crate::symbolic::{read_cond_text, read_expr_text, symbols_text};
 use percent_encoding::percent_decode;
-use pt_parse_expr::one_reading;
 use std::alloc::{AllocError, Global};
 
 /// What is asked of a piece.
@@ -28,8 +28,7 @@ pub(crate) fn plain_answer(alloc: Global, line: &str) -> Result<String, AllocErr
         "symbols" => asked(alloc, Question::Symbols, 0, rest),
         "read_expr" => placed(alloc, Question::ReadExpr, rest),
         "read_cond" => placed(alloc, Question::ReadCond, rest),
-        "laws" => laws(alloc),
-        _ => unknown(alloc),
+        _ => script_answer(alloc, word, rest),
     }
 }
 
@@ -65,9 +64,4 @@ fn asked(alloc: Global, question: Question, at: usize, text: &str) -> Result<Str
         Question::ReadExpr => read_expr_text(alloc, piece, at),
         Question::ReadCond => read_cond_text(alloc, piece, at),
     }
-}
-
-fn laws(alloc: Global) -> Result<String, AllocError> {
-    one_reading();
-    String::from_str(alloc, "laws")
 }

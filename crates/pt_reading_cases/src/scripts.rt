@@ -1,18 +1,16 @@
+use crate::answers::{cut_word, unknown};
 use crate::cutting::{Form, fed_text, pieces_text};
 use crate::lexing::tokens_text;
 use percent_encoding::percent_decode;
+use pt_parse_expr::one_reading;
 use pt_token::{
     blank_has_no_token, cuts_end, cuts_outside, ends_first, feeds_give_pieces, one_lexing,
     texts_end,
 };
 use std::alloc::{AllocError, Global};
 
-/// The answer to a line.
-pub(crate) fn answer(alloc: Global, line: &str) -> Result<String, AllocError> {
-    let (word, rest) = cut_word(line);
-    if word.is_empty() || word.starts_with('#') {
-        return String::from_str(alloc, line);
-    }
+/// The answer to a line about pieces and their tokens.
+pub(crate) fn script_answer(alloc: Global, word: &str, rest: &str) -> Result<String, AllocError> {
     match word {
         "tokens" => tokens_answer(alloc, rest),
         "pieces" => pieces_answer(alloc, rest),
@@ -22,18 +20,6 @@ pub(crate) fn answer(alloc: Global, line: &str) -> Result<String, AllocError> {
         "laws" => laws_answer(alloc),
         _ => unknown(alloc),
     }
-}
-
-/// A word, and what stands behind the space after it.
-fn cut_word(line: &str) -> (&str, &str) {
-    match line.split_once(' ') {
-        None => (line, ""),
-        Some(parts) => parts,
-    }
-}
-
-fn unknown(alloc: Global) -> Result<String, AllocError> {
-    String::from_str(alloc, "?")
 }
 
 fn tokens_answer(alloc: Global, text: &str) -> Result<String, AllocError> {
@@ -77,6 +63,7 @@ fn laws_answer(alloc: Global) -> Result<String, AllocError> {
     texts_end();
     blank_has_no_token();
     one_lexing();
+    one_reading();
     String::from_str(alloc, "laws")
 }
 

@@ -1,4 +1,4 @@
-use crate::written::put_text;
+use crate::leaves::put_text;
 use pt_token::{Token, TokenKind, tokens};
 use std::alloc::{AllocError, Global};
 

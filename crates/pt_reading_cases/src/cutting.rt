@@ -1,7 +1,7 @@
 ghost use Rattle.std.specs.Prelude.{◌<◌, ◌≤◌, length, IfOk};
 ghost use Rattle.pt_token.specs.Splitting.{IsReady};
 
-use crate::written::put_hex;
+use crate::leaves::put_digits;
 use pt_token::{SplitFault, Splitter};
 use std::alloc::{AllocError, Global};
 
@@ -88,7 +88,7 @@ fn put_piece(text: &mut String, splitter: &Splitter, form: Form) -> Result<(), S
 
 fn put_marked(text: &mut String, piece: &[u8], mark: char, form: Form) -> Result<(), AllocError> {
     match form {
-        Form::Hex => put_hex(text, piece)?,
+        Form::Hex => put_digits(text, piece)?,
         Form::Length => put_length(text, piece)?,
     }
     text.push(mark)

@@ -1,6 +1,6 @@
 use std::alloc::AllocError;
 
-/// The bytes between quotes.
+/// The bytes between quotes, where a quote, a backslash and what is no printable ASCII is a backslash with two hexadecimal digits.
 pub(crate) fn put_text(text: &mut String, bytes: &[u8]) -> Result<(), AllocError> {
     text.push('\'')?;
     for b in bytes {
@@ -22,12 +22,10 @@ fn is_plain(b: u8) -> bool {
     (b' '..=b'~').contains(&b) && b != b'\'' && b != b'\\'
 }
 
-/// Two hexadecimal digits for each byte.
+/// The bytes as a hexadecimal string.
 pub(crate) fn put_hex(text: &mut String, bytes: &[u8]) -> Result<(), AllocError> {
     text.push_str("X'")?;
-    for b in bytes {
-        write!(text, "{b:02X}")?;
-    }
+    put_digits(text, bytes)?;
     text.push('\'')
 }
 
@@ -46,4 +44,12 @@ pub(crate) fn put_column(text: &mut String, name: &[u8]) -> Result<(), AllocErro
         text.push(char::from(*b))?;
     }
     text.push('`')
+}
+
+/// Two hexadecimal digits for each byte.
+pub(crate) fn put_digits(text: &mut String, bytes: &[u8]) -> Result<(), AllocError> {
+    for b in bytes {
+        write!(text, "{b:02X}")?;
+    }
+    Ok(())
 }
