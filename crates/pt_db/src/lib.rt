@@ -1,0 +1,2 @@
+//! What a database is.
+#![tactic(auto)]
