@@ -1,1 +1,3 @@
 pub mod Keyed
+pub mod Lookups
+pub mod Serials
