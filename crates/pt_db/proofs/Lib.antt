@@ -1,3 +1,5 @@
 pub mod Keyed
 pub mod Lookups
 pub mod Serials
+pub mod Numbered
+pub mod Spots
