@@ -3,3 +3,4 @@ pub mod Lookups
 pub mod Serials
 pub mod Numbered
 pub mod Spots
+pub mod Sounds
