@@ -4,3 +4,5 @@ pub mod Serials
 pub mod Numbered
 pub mod Spots
 pub mod Sounds
+pub mod Searched
+pub mod Found
