@@ -1,8 +1,8 @@
 -- The place of a table, as a search by halves finds it, and changes there.
-use Rattle.std.proofs.Common.{◌≡◌, ℕ, ◌<◌, ◌≤◌, List, [], ◌∷◌, length, get_or, set, map, Option, Some, None, refl, sym, ap, ◌∙◌, subst, arith}
+use Rattle.std.proofs.Common.{◌≡◌, ℕ, List, [], ◌∷◌, length, get_or, set, Some, None, sym, ◌∙◌, subst, arith}
 use Rattle.std.specs.Prelude.{Result, Ok, Err}
 use Rattle.std.specs.Cmp.Lexicographic.{slice_cmp}
-use Rattle.std.specs.List.{insert, remove}
+use Rattle.std.specs.List.{remove}
 use Rattle.std.specs.List.Sorted.{IsBinarySearchResult, IsSearchInRange}
 use Rattle.std.specs.Ordering.{nat_cmp}
 use Rattle.std.specs.Result.{MatchResult}
@@ -10,7 +10,7 @@ use Rattle.std.specs.Str.{bytes_eq}
 use Rattle.pt_ast.specs.declared.database.Row.{Row}
 use Rattle.pt_ast.specs.declared.database.Table.{Table}
 use Rattle.pt_ast.specs.Rising.{NamesRise}
-use Rattle.pt_db.specs.Lookup.{IsPlaceFor, IsPlaceOf, table_in, with_rows, with_table, without_table}
+use Rattle.pt_db.specs.Lookup.{IsPlaceFor, IsPlaceOf, table_in, with_rows, without_table}
 use Rattle.pt_db.proofs.Lookups.{by_names, name_of, table_named}
 use Rattle.pt_db.proofs.Searched as searched
 

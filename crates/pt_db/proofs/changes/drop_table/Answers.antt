@@ -1,6 +1,6 @@
-use Rattle.std.proofs.Common.{◌≡◌, sym, subst, ◌∙◌}
+use Rattle.std.proofs.Common.{sym, subst, ◌∙◌}
 use Rattle.pt_ast.specs.Rising.{NamesRise}
-use Rattle.pt_db.specs.Lookup.{IsPlaceFor, IsPlaceOf, without_table}
+use Rattle.pt_db.specs.Lookup.{IsPlaceFor, IsPlaceOf}
 use Rattle.pt_db.proofs.Found.{none_removed, removed_there}
 use Rattle.pt_db.proofs.Lookups.{removed_rise}
 use Rattle.pt_db.proofs.changes.drop_table.Goals as goal
