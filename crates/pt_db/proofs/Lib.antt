@@ -3,6 +3,7 @@ pub mod Lookups
 pub mod Serials
 pub mod Numbered
 pub mod Spots
+pub mod SpotLists
 pub mod Sounds
 pub mod RowSounds
 pub mod Searched

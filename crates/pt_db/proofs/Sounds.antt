@@ -1,5 +1,5 @@
 -- A database in which one table is changed, added or dropped is sound.
-use Rattle.std.proofs.Common.{◌≡◌, ◌≢◌, ℕ, ◌<◌, ◌≤◌, ◌^◌, Bool, true, false, List, [], Option, Some, None, refl, sym, subst, ◌∙◌, arith}
+use Rattle.std.proofs.Common.{◌≡◌, ◌≢◌, ℕ, ◌<◌, ◌≤◌, ◌^◌, Bool, true, false, List, [], Option, Some, None, refl, sym, ap₂, subst, ◌∙◌, arith}
 use Rattle.std.specs.Cmp.Lexicographic.{slice_cmp}
 use Rattle.std.specs.Option.{IsSome}
 use Rattle.std.specs.Ordering.{nat_cmp}
@@ -19,7 +19,7 @@ use Rattle.pt_plain.proofs.Rising.{sorted_nil}
 use Rattle.pt_db.specs.Lookup.{added_to, empty_db, filled, removed_from, table_in, table_of, with_both, with_rows, with_table, without_table}
 use Rattle.pt_db.specs.Rows.{row_at}
 use Rattle.pt_db.specs.Sound.{AreSoundRows, IsSound, IsSoundRow, IsSoundTable}
-use Rattle.pt_db.proofs.Lookups.{added_rise, both_other, both_rise, both_same, removed_rise, rows_rise, table_added, table_beside, table_holds, table_itself, table_left, table_named, table_other, table_removed, table_same, tables_hold}
+use Rattle.pt_db.proofs.Lookups.{added_rise, both_other, both_rise, both_same, removed_rise, rows_rise, same_tables, table_added, table_beside, table_holds, table_itself, table_left, table_named, table_other, table_removed, table_same, tables_hold}
 use Rattle.pt_db.proofs.Serials.{row_holds}
 
 -- ---- with a greater next serial
@@ -179,3 +179,21 @@ removed_sound db name sound =
     replaced_sound db sound name (without_table name db.tables) db.next (removed_rise name db.tables sound.rising) (omega arith) sound.most
     (λ later held. let bad : None ≡ Some later = (sym (table_removed name db.tables) ∙ held) in cc)
     (table_left name db.tables)
+
+-- ---- two databases
+
+-- sound databases with the same table at each name, and the same next serial, are one
+pub same_sound : (a b : Db) → IsSound a → IsSound b → ((name : List ℕ) → IsIdent name → table_of a name ≡ table_of b name) → a.next ≡ b.next → a ≡ b
+same_sound a b sound_a sound_b same next =
+    ap₂ with_next (same_tables a.tables b.tables sound_a.rising sound_b.rising (λ name. at_each name (table_of a name) (table_of b name) refl refl)) next
+  where
+    with_next : List Table → ℕ → Db
+    with_next tables serial = record { tables = tables; next = serial }
+
+    named : (db : Db) (name : List ℕ) (table : Table) → IsSound db → table_of db name ≡ Some table → IsIdent name
+    named db name table sound at = subst IsIdent (table_named db.tables name table at) (sound_table db sound name table at).name
+
+    at_each : (name : List ℕ) (x y : Option Table) → table_of a name ≡ x → table_of b name ≡ y → table_of a name ≡ table_of b name
+    at_each name (Some table) y at other = same name (named a name table sound_a at)
+    at_each name None (Some table) at other = same name (named b name table sound_b other)
+    at_each name None None at other = at ∙ sym other

@@ -1,10 +1,8 @@
 -- Every placed row stands in a spot of its table, and the spots' rows are all of them.
-use Rattle.std.proofs.Common.{◌≡◌, ℕ, zero, suc, ◌+◌, ◌<◌, ◌==◌, Bool, true, false, cond, not, ◌&&◌, ◌||◌, List, [], ◌∷◌, length, get_or, Option, Some, None, refl, sym, ap, ap₂, subst, ◌∙◌, arith}
-use Rattle.std.specs.List.{All, range_with_len}
+use Rattle.std.proofs.Common.{◌≡◌, ℕ, zero, suc, ◌+◌, ◌<◌, ◌==◌, Bool, true, false, cond, not, ◌&&◌, ◌||◌, List, [], ◌∷◌, length, Option, Some, None, refl, sym, ap, ap₂, subst, ◌∙◌, arith}
+use Rattle.std.specs.List.{All}
 use Rattle.std.specs.Option.{IsSome, option_map, option_map_or}
 use Rattle.std.proofs.lemmas.Bool.{and_from, and_parts, eq-eqb, eqb-true, not-false, true≢false}
-use Rattle.std.proofs.lemmas.List.FromFn.{get_or-range_with_len, length-range_with_len}
-use Rattle.std.proofs.lemmas.List.Elements.{All-map}
 use Rattle.std.proofs.lemmas.Map.Entries.{option_filter}
 use Rattle.pt_value.specs.declared.value.Value.{Value}
 use Rattle.pt_ast.specs.declared.database.Row.{Row}
@@ -13,16 +11,17 @@ use Rattle.pt_ast.specs.declared.table.PartBy.{PartBy}
 use Rattle.pt_ast.specs.declared.table.PartBy.TheVariants as by
 use Rattle.pt_ast.specs.declared.table.PartDef.{PartDef}
 use Rattle.pt_ast.specs.declared.table.TableDef.{TableDef}
+use Rattle.pt_ast.specs.Keys.{is_taken}
 use Rattle.pt_place.specs.Checks.{is_whole}
 use Rattle.pt_place.specs.First.{first_in}
 use Rattle.pt_place.specs.Place.{numbered, part_of, place_of, spot_in, subs_at}
 use Rattle.pt_place.specs.Valid.{IsValid, first_subs, other_subs}
 use Rattle.pt_place.proofs.Firsts.{none_first, none_next, passes}
 use Rattle.pt_place.proofs.Passing.{Passed, passed}
-use Rattle.pt_plain.proofs.Pairs.{all_flat_map}
-use Rattle.pt_db.specs.Rows.{AreRising, is_at, is_spot, row_at, spot_rows}
+use Rattle.pt_place.proofs.OneSpot.{taken_in_spot}
+use Rattle.pt_db.specs.Rows.{AreRising, is_at, is_numbered, is_spot, others, row_at, spot_rows}
 use Rattle.pt_db.specs.Sound.{AreSoundRows}
-use Rattle.pt_db.specs.Spots.{IsSpotOf, part_count, spot_at, spots_in, spots_of, sub_count}
+use Rattle.pt_db.specs.Spots.{IsSpotOf, part_count, spot_at, sub_count}
 use Rattle.pt_db.proofs.Numbered.{numbered_below, part_below}
 use Rattle.pt_db.proofs.Serials.{row_filtered, row_holds, same_rows}
 
@@ -194,20 +193,26 @@ module _ (def : TableDef) where
   sound_from_spots next later xs ys valid sound_x sound_y same =
       rows_from_spots valid xs ys sound_x.rising sound_y.rising (λ k d below. (sound_x.each k d below).placed) (λ k d below. (sound_y.each k d below).placed) same
 
--- ---- the list of spots
+-- ---- whether rows agree is decided in the spot
 
-range_within : (a n : ℕ) → All (λ i. i < a + n) (range_with_len a n)
-range_within a n k d below =
-    let within : k < n = omega (arith, below, length-range_with_len a n) in
-    let is = get_or-range_with_len a n k d within in
-    omega (arith, is, within)
+module _ (def : TableDef) (valid : IsValid def) (cells : List Value) (spot : Spot) (placed : place_of def cells ≡ Some spot) where
+  pub taken_there : (rows : List Row) → is_taken def cells (spot_rows def spot rows) ≡ is_taken def cells rows
+  taken_there rows = taken_in_spot def cells (is_at def spot) rows valid (λ row same. stands_there def spot row.cells (same ∙ placed))
 
-module _ (def : TableDef) where
-  -- each spot of the list is one of the table's
-  pub spots_each : All (IsSpotOf def) (spots_of def)
-  spots_each =
-      all_flat_map (IsSpotOf def) (spots_in def) (range_with_len 0 (part_count def)) (λ k d below.
-      let part = get_or (range_with_len 0 (part_count def)) k d in
-      let within = range_within 0 (part_count def) k d below in
-      All-map (IsSpotOf def) (spot_at part) (range_with_len 0 (sub_count def part)) (λ j e under.
-      record { part = omega (arith, within); sub = let low = range_within 0 (sub_count def part) j e under in omega (arith, low) }))
+  others_there : (serial : ℕ) (rows : List Row) → others serial (spot_rows def spot rows) ≡ spot_rows def spot (others serial rows)
+  others_there serial [] = refl
+  others_there serial (row ∷ rows) = by_tests (is_at def spot row) (is_numbered serial row) refl refl (others_there serial rows)
+    where
+      by_tests : (t s : Bool) → is_at def spot row ≡ t → is_numbered serial row ≡ s → others serial (spot_rows def spot rows) ≡ spot_rows def spot (others serial rows)
+          → others serial (cond t (row ∷ spot_rows def spot rows) (spot_rows def spot rows)) ≡ spot_rows def spot (cond (not s) (row ∷ others serial rows) (others serial rows))
+      by_tests true true e f rest = ap (λ b. cond (not b) (row ∷ others serial (spot_rows def spot rows)) (others serial (spot_rows def spot rows))) f ∙ rest
+      by_tests true false e f rest =
+          ap (λ b. cond (not b) (row ∷ others serial (spot_rows def spot rows)) (others serial (spot_rows def spot rows))) f
+          ∙ ap (λ zs. row ∷ zs) rest
+          ∙ sym (ap (λ b. cond b (row ∷ spot_rows def spot (others serial rows)) (spot_rows def spot (others serial rows))) e)
+      by_tests false true e f rest = rest
+      by_tests false false e f rest = rest ∙ sym (ap (λ b. cond b (row ∷ spot_rows def spot (others serial rows)) (spot_rows def spot (others serial rows))) e)
+
+  -- also beside a row that changes
+  pub others_taken : (serial : ℕ) (rows : List Row) → is_taken def cells (others serial (spot_rows def spot rows)) ≡ is_taken def cells (others serial rows)
+  others_taken serial rows = ap (is_taken def cells) (others_there serial rows) ∙ taken_there (others serial rows)

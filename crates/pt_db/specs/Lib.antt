@@ -5,3 +5,4 @@ pub mod Lookup
 pub mod Rows
 pub mod Spots
 pub mod Sound
+pub mod Laws

@@ -9,6 +9,9 @@
 //!   wanting the database is as it was.
 //! - `refusal_reply` answers a refusal with its code and its line `error CODE NAME ARG` (`reply_of`). `ok_reply`, `count_reply` and
 //!   `counts_reply` answer `ok` with no number, one and two.
+//! - Theorems: the place of a row is one of its table's spots (`placed_in_spot`); a sound table's rows are determined by those of its
+//!   spots (`one_by_spots`), and a sound database by the table of each name and the next serial (`one_by_names`); each change keeps a
+//!   database sound (`changes_keep_sound`).
 //! - `proofs/` has the lemmas that the crates above use: look-ups after each change, lists that are equal where their look-ups are,
 //!   rows that are equal spot by spot, and that each change keeps a database sound.
 //!
@@ -16,9 +19,11 @@
 #![tactic(auto)]
 
 mod changes;
+mod laws;
 mod lookup;
 mod replies;
 
 pub use changes::{add_table, empty_db, remove_table, replace_rows};
+pub use laws::{changes_keep_sound, one_by_names, one_by_spots, placed_in_spot};
 pub use lookup::{find_table, table_place};
 pub use replies::{count_reply, counts_reply, ok_reply, refusal_reply};
