@@ -6,5 +6,6 @@ pub mod Spots
 pub mod SpotLists
 pub mod Sounds
 pub mod RowSounds
+pub mod Outcomes
 pub mod Searched
 pub mod Found
