@@ -1,4 +1,5 @@
--- Rows by their serials. A table's rows are a map from serials to cells, which is written as a list by rising serial.
+-- Rows by their serials, which are this project's own: a row keeps the number that it got when it was inserted. A table's rows are a map
+-- from serials to cells, which is written as a list by rising serial.
 use Rattle.std.specs.Prelude.{ℕ, Bool, false, not, ◌&&◌, ◌==◌, List, [], ◌∷◌, map, filter, Option, Some, None, if◌then◌else◌}
 use Rattle.std.specs.Option.{option_map_or}
 use Rattle.std.specs.Ordering.{nat_cmp}

@@ -1,4 +1,5 @@
--- What holds of every database.
+-- What holds of every database. MySQL 5.7 manual, section 13.1.18, "CREATE TABLE Syntax": a column that is NOT NULL has no NULL, and no
+-- two rows agree on a unique key.
 use Rattle.std.specs.Prelude.{◌≡◌, ℕ, ◌<◌, ◌≤◌, ◌^◌, Bool, false, ◌&&◌, ◌||◌, List, ◌∷◌, All, Some, IsSome, Ok}
 use Rattle.pt_value.specs.Ident.{IsIdent}
 use Rattle.pt_value.specs.declared.value.Value.{Value}

@@ -1,4 +1,4 @@
--- The texts of answers: whole lines of standard output.
+-- The texts of answers: whole lines of standard output. Their forms are this project's own.
 use Rattle.std.specs.Prelude.{ℕ, List, [], ◌∷◌, ◌++◌, codes}
 use Rattle.std.specs.Fmt.{decimal}
 use Rattle.pt_ast.specs.declared.refusal.Arg.{Arg}
