@@ -1,0 +1,11 @@
+pub mod Keyed
+pub mod Lookups
+pub mod Serials
+pub mod Numbered
+pub mod Spots
+pub mod SpotLists
+pub mod Sounds
+pub mod RowSounds
+pub mod Outcomes
+pub mod Searched
+pub mod Found
