@@ -1,7 +1,6 @@
 -- Columns, one by one beside the names of those before them.
-use Rattle.std.proofs.Common.{◌≡◌, ℕ, ◌+◌, ◌<◌, ◌≤◌, List, [], ◌∷◌, ◌++◌, map, length, take, drop, get_or, Option, Some, None, Result, Ok, Err, refl, sym, ap, ◌∙◌}
+use Rattle.std.proofs.Common.{◌≡◌, ℕ, ◌+◌, ◌<◌, ◌≤◌, List, [], ◌∷◌, ◌++◌, length, take, drop, get_or, Option, Some, None, Ok, Err, refl, sym, ap, ◌∙◌}
 use Rattle.std.specs.List.{filter_map}
-use Rattle.std.specs.Option.{option_or}
 use Rattle.std.proofs.lemmas.List.{map-append, take_all, take_more}
 use Rattle.std.proofs.lemmas.List.Elements.{filter_map-append}
 use Rattle.pt_ast.specs.declared.written.ColOption.{ColOption}
@@ -12,7 +11,7 @@ use Rattle.pt_ast.specs.declared.table.Column.{Column}
 use Rattle.pt_ast.specs.declared.refusal.Refusal.{Refusal}
 use Rattle.pt_place.specs.First.{in_turn, in_turn_from}
 use Rattle.pt_place.specs.Names.{names_of}
-use Rattle.pt_place.proofs.Firsts.{turn_end, turn_found, turn_more}
+use Rattle.pt_place.proofs.Firsts.{turn_found, turn_more}
 use Rattle.pt_written.specs.Complete.{bad_item, bad_written_column, refused_or}
 use Rattle.pt_written.specs.Written.{column_in, columns_of, is_not_null, kind_of, primary_names}
 use Rattle.pt_complete.proofs.Naming.{made_err, made_ok}

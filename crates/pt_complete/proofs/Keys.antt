@@ -6,7 +6,7 @@ use Rattle.std.proofs.lemmas.List.Elements.{filter_map-append}
 use Rattle.pt_ast.specs.declared.written.ColOption.{ColOption}
 use Rattle.pt_ast.specs.declared.table.Column.{Column}
 use Rattle.pt_ast.specs.declared.table.KeyDef.{KeyDef}
-use Rattle.pt_written.specs.Written.{KeyText, key_of, key_option}
+use Rattle.pt_written.specs.Written.{key_of, key_option}
 
 pub own_keys_more : (columns : List Column) (name : List ℕ) (options : List ColOption) (i : ℕ) (own : ColOption) → i < length options → own ≡ get_or options i own → (before keys next : List KeyDef)
     → keys ≡ before ++ map (key_of columns) (filter_map (key_option name) (take i options)) → next ≡ keys ++ map (key_of columns) (filter_map (key_option name) (own ∷ []))

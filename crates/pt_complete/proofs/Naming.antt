@@ -1,5 +1,5 @@
 -- Names of partitions and subpartitions, one by one beside those before them.
-use Rattle.std.proofs.Common.{◌≡◌, ℕ, zero, suc, ◌+◌, ◌<◌, ◌≤◌, arith, List, [], ◌∷◌, ◌++◌, map, length, take, drop, get_or, Option, Some, None, Result, Ok, Err, refl, sym, ap, subst, ◌∙◌}
+use Rattle.std.proofs.Common.{◌≡◌, ℕ, ◌+◌, ◌<◌, ◌≤◌, arith, List, [], ◌∷◌, ◌++◌, map, length, take, drop, get_or, Option, Some, None, Result, Ok, Err, refl, sym, ap, subst, ◌∙◌}
 use Rattle.std.specs.Prelude.{IfNone, IfOk, codes, decimal}
 use Rattle.std.specs.List.{flat_map, range_with_len}
 use Rattle.std.specs.Option.{option_or}
@@ -11,7 +11,7 @@ use Rattle.pt_ast.specs.declared.table.Bound.{Bound}
 use Rattle.pt_ast.specs.declared.table.PartDef.{PartDef}
 use Rattle.pt_ast.specs.declared.refusal.Refusal.{Refusal}
 use Rattle.pt_place.specs.Checks.{part_names}
-use Rattle.pt_place.specs.First.{in_turn, in_turn_from}
+use Rattle.pt_place.specs.First.{in_turn_from}
 use Rattle.pt_place.proofs.Firsts.{or-some, or-none, turn-append}
 use Rattle.pt_written.specs.Complete.{Named, bad_name, bad_names, named_in, refused_or}
 use Rattle.pt_written.specs.WrittenParts.{part_made, subs_named}

@@ -1,11 +1,10 @@
 -- The checks of a text in their order, and what they leave.
-use Rattle.std.proofs.Common.{◌≡◌, ℕ, zero, suc, ◌+◌, ◌-◌, ◌*◌, ◌^◌, ◌<◌, ◌≤◌, min, ℤ, Bool, true, false, not, cond, ◌&&◌, ◌||◌, ◌==◌, List, [], ◌∷◌, ◌++◌, map, length, take, Option, Some, None, Result, Ok, Err, refl, sym, ap, ◌∙◌, arith}
+use Rattle.std.proofs.Common.{◌≡◌, ℕ, zero, suc, ◌+◌, ◌*◌, ◌<◌, ◌≤◌, Bool, true, false, cond, ◌&&◌, ◌==◌, List, [], ◌∷◌, ◌++◌, map, length, take, Option, Some, None, Result, Ok, Err, refl, sym, ap, ◌∙◌, arith}
 use Rattle.std.specs.Prelude.{is_none, nat_lt, count_by, if◌then◌else◌, slice_index_or}
 use Rattle.std.specs.List.{filter_map, position, position_or_len, range_with_len}
 use Rattle.std.specs.Option.{option_map_or, option_or}
 use Rattle.std.proofs.lemmas.List.Recursion.{is_count_by}
 use Rattle.pt_value.specs.declared.value.Kind.{Kind}
-use Rattle.pt_ast.specs.declared.table.Bound.{Bound}
 use Rattle.pt_ast.specs.declared.table.Column.{Column}
 use Rattle.pt_ast.specs.declared.table.KeyDef.{KeyDef}
 use Rattle.pt_ast.specs.declared.table.PartBy.{PartBy}
@@ -21,23 +20,22 @@ use Rattle.pt_ast.specs.declared.written.PartItem.{PartItem}
 use Rattle.pt_ast.specs.declared.written.PartSpec.{PartSpec}
 use Rattle.pt_ast.specs.declared.written.SubSpec.{SubSpec}
 use Rattle.pt_ast.specs.declared.written.TableSpec.{TableSpec}
-use Rattle.pt_ast.specs.declared.refusal.Arg.TheVariants as arg
 use Rattle.pt_ast.specs.declared.refusal.Refusal.{Refusal}
 use Rattle.pt_ast.specs.declared.refusal.Refusal.TheVariants as refusal
 use Rattle.pt_ast.specs.Lists.{entries, is_list_fault, list_fault, repeats}
 use Rattle.pt_ast.specs.Ranges.{bound_of, bounds_fault, range_fault}
 use Rattle.pt_ast.specs.StorableSpec.{is_column}
-use Rattle.pt_place.specs.Checks.{bad_bounds, key_of_none, lacking_key, of_list_fault, of_range_fault, part_name_at, sub_of_number, told, too_many}
+use Rattle.pt_place.specs.Checks.{bad_bounds, key_of_none, lacking_key, of_list_fault, of_range_fault, sub_of_number, told, too_many}
 use Rattle.pt_place.specs.First.{first_in, first_of, in_turn, refused_if}
 use Rattle.pt_place.specs.Fitting.{kinds_of}
 use Rattle.pt_place.proofs.Firsts.{none_first, none_next, or-none, or-some, or_assoc, or_end, passes}
-use Rattle.pt_written.specs.Complete.{bad_item, bad_main, bad_names, bad_parts, bad_spec, bad_spec_if, bad_sub, bad_written_key, bad_written_values, complete_of, defined, definition_of, is_other_count, is_without_written, needs_parts, other_written_subs, partitioned, refused_or, written_refusal}
+use Rattle.pt_written.specs.Complete.{bad_item, bad_main, bad_names, bad_parts, bad_spec, bad_spec_if, bad_sub, bad_written_key, bad_written_values, complete_of, defined, definition_of, is_without_written, needs_parts, other_written_subs, partitioned, refused_or, written_refusal}
 use Rattle.pt_written.specs.Reading.{bad_written_counts, bad_written_kinds}
 use Rattle.pt_written.specs.Written.{column_in, columns_of, keys_of, keys_written, primary_names}
 use Rattle.pt_written.specs.WrittenParts.{bounds_of, by_of, part_count, part_in, parts_of, sub_count, sub_of}
 use Rattle.pt_complete.proofs.Kept.{first_false, second_false}
-use Rattle.pt_complete.proofs.Naming.{err_made, ok_made}
-use Rattle.pt_complete.specs.Making.{bare_in}
+use Rattle.pt_complete.proofs.Naming.{err_made}
+use Rattle.pt_complete.specs.Making.{bad_bounds_or_names, bare_in}
 
 -- ---- bounds don't depend on the names of subpartitions
 
@@ -228,14 +226,9 @@ module _ (table : List ℕ) (def : TableDef) (spec : PartSpec) (is_by : def.by �
         unfolding parts
         bounds_are = bounds_in (kinds_of def.columns def.by) def.by spec.sub (sub_count spec) def.columns def.keys spec.main _ spec.parts is_by (second_false _ _ (first_false _ _ without))
 
-        pub bounds_refused : (r : Refusal) → Some r ≡ bad_bounds def.by (map (bare_in (kinds_of def.columns def.by) def.by) (defined spec)) → bad_spec table def.columns def.keys spec ≡ Some r
-        unfolding rest values
-        bounds_refused r found = after ∙ or-none _ _ (sym valued) ∙ or-some _ _ r (sym bounds_are ∙ sym found)
-
-        pub names_are : None ≡ bad_bounds def.by (map (bare_in (kinds_of def.columns def.by) def.by) (defined spec))
-            → bad_spec table def.columns def.keys spec ≡ bad_names (parts_of (kinds_of def.columns def.by) def.by spec)
+        pub bounds_or_names : bad_spec table def.columns def.keys spec ≡ bad_bounds_or_names def spec
         unfolding rest values parts
-        names_are none = after ∙ or-none _ _ (sym valued) ∙ or-none _ _ (sym bounds_are ∙ sym none)
+        bounds_or_names = after ∙ or-none _ _ (sym valued) ∙ ap (λ b. option_or b (bad_names parts)) (sym bounds_are)
 
 -- ---- the whole
 

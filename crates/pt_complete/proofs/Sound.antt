@@ -1,5 +1,5 @@
 -- VALUES that pass the checks of a text are constants of their kinds.
-use Rattle.std.proofs.Common.{◌≡◌, ◌⊎◌, inl, inr, ℕ, zero, suc, ◌+◌, ◌<◌, ◌≤◌, ℤ, Bool, true, false, not, ◌||◌, ◌==◌, List, [], ◌∷◌, ◌++◌, length, drop, get_or, map, Option, Some, None, Result, Ok, Err, refl, sym, ap, subst, ◌∙◌, arith, add-one, All}
+use Rattle.std.proofs.Common.{◌≡◌, ◌⊎◌, inl, inr, ℕ, zero, suc, ◌+◌, ◌<◌, ◌≤◌, ℤ, Bool, true, false, List, [], ◌∷◌, ◌++◌, length, drop, get_or, map, Option, Some, None, Result, Ok, Err, refl, sym, ap, subst, ◌∙◌, arith, add-one, All}
 use Rattle.std.specs.Prelude.{IfOk}
 use Rattle.std.specs.List.{list_any, slice_get}
 use Rattle.std.proofs.lemmas.List.{append-nil, append_assoc, at_drop_all}
@@ -34,7 +34,7 @@ use Rattle.pt_written.specs.ReadingValues.{tuples_written}
 use Rattle.pt_written.specs.WrittenParts.{bound_of, entry_items, is_date, tuple_of, tuples_in, worth}
 use Rattle.pt_written.proofs.WrittenValues.{form}
 use Rattle.pt_complete.proofs.Kept.{first_false, int_big, not_false, second_false}
-use Rattle.pt_complete.specs.Making.{AreConstants, AreSoundValues, CanKeep, IsConstant, IsConstantExpr, IsConstantFinding, IsPartSound}
+use Rattle.pt_complete.specs.Making.{AreConstants, CanKeep, IsConstant, IsConstantExpr, IsConstantFinding, IsPartSound}
 
 -- ---- an item
 

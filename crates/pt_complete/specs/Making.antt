@@ -1,5 +1,5 @@
 -- In the shape of the code: what is made, piece by piece, and what its making rests on. Nothing public cites these.
-use Rattle.std.specs.Prelude.{◌≡◌, ℕ, ◌<◌, ℤ, neg_ℤ, Bool, true, false, All, IsTrue, IfSome, nat_lt, if◌then◌else◌, List, [], ◌∷◌, ◌++◌, length, Option, Some, None, Result, Ok, Err}
+use Rattle.std.specs.Prelude.{◌≡◌, ℕ, ◌<◌, ℤ, neg_ℤ, Bool, true, false, All, IsTrue, IfSome, nat_lt, if◌then◌else◌, List, [], ◌∷◌, ◌++◌, map, length, Option, Some, None, Result, Ok, Err}
 use Rattle.std.specs.Option.{option_or, option_to_list}
 use Rattle.pt_value.specs.Ident.{is_ident_byte}
 use Rattle.pt_value.specs.declared.value.Value.{Value}
@@ -21,18 +21,19 @@ use Rattle.pt_ast.specs.declared.table.Column.{Column}
 use Rattle.pt_ast.specs.declared.table.Rank.{Rank}
 use Rattle.pt_ast.specs.declared.table.PartBy.{PartBy}
 use Rattle.pt_ast.specs.declared.table.PartDef.{PartDef}
+use Rattle.pt_ast.specs.declared.table.TableDef.{TableDef}
 use Rattle.pt_ast.specs.declared.refusal.Refusal.{Refusal}
 use Rattle.pt_ast.specs.declared.refusal.Refusal.TheVariants as refusal
 use Rattle.pt_expr.specs.declared.kind.ExprKind.{ExprKind}
 use Rattle.pt_expr.specs.declared.kind.CheckFault.{CheckFault}
-use Rattle.pt_place.specs.Checks.{name_twice}
+use Rattle.pt_place.specs.Checks.{bad_bounds, name_twice}
 use Rattle.pt_place.specs.First.{first_of, refused_if}
 use Rattle.pt_place.specs.Fitting.{is_in_range, kinds_of}
-use Rattle.pt_written.specs.Complete.{bad_written_column, defined, has_kind, item_finding}
+use Rattle.pt_written.specs.Complete.{bad_names, bad_written_column, defined, has_kind, item_finding}
 use Rattle.pt_written.specs.Reading.{is_out, is_wrong}
 use Rattle.pt_written.specs.ReadingValues.{tuples_written}
 use Rattle.pt_written.specs.Written.{KeyText, but_null, column_in, default_in, default_written, is_not_null, kind_of}
-use Rattle.pt_written.specs.WrittenParts.{bounds_of, tuples_in, worth}
+use Rattle.pt_written.specs.WrittenParts.{bounds_of, parts_of, tuples_in, worth}
 
 -- ---- columns and keys
 
@@ -110,6 +111,12 @@ ArePartsSound columns by spec = All (IsPartSound columns by) (defined spec)
 -- without its subpartitions
 abbrev pub bare_in : List Kind → PartBy → PartItem → PartDef
 bare_in kinds by part = record { name = part.name; bounds = bounds_of kinds by part.values; subs = [] }
+
+-- bounds, and then names
+abbrev pub bad_bounds_or_names : TableDef → PartSpec → Option Refusal
+bad_bounds_or_names def spec =
+    let kinds = kinds_of def.columns def.by in
+    option_or (bad_bounds def.by (map (bare_in kinds def.by) (defined spec))) (bad_names (parts_of kinds def.by spec))
 
 -- one byte and more, each of which may stand in an identifier
 pub record IsSpelled (bytes : List ℕ) : Type 0 where

@@ -1,10 +1,10 @@
 ghost use Rattle.std.specs.Prelude.{◌≡◌, ◌≤◌, Some, Ok, Err, IfOk, IfErr, length};
 ghost use Rattle.pt_ast.specs.StorableSpec.{IsStorableSpec};
 ghost use Rattle.pt_complete.specs.Fault.{IfRefused};
-ghost use Rattle.pt_complete.specs.Making.{IsBeside};
+ghost use Rattle.pt_complete.specs.Making.{ArePartsSound, IsBeside, bad_bounds_or_names};
 ghost use Rattle.pt_place.specs.Fitting.{kinds_of};
 ghost use Rattle.pt_written.specs.Complete.{bad_spec, complete_of, partitioned, refused_or};
-ghost use Rattle.pt_written.specs.WrittenParts.{by_of, parts_of, sub_of};
+ghost use Rattle.pt_written.specs.WrittenParts.{by_of, part_count, parts_of, sub_count, sub_of};
 
 use crate::columns_made::columns_of;
 use crate::fault::DefFault;
@@ -123,10 +123,26 @@ fn checked_parts(
     if let Some(refusal) = all_bad_written_values(alloc, table, &def.columns, &def.by, items) {
         return Ok(Err(refusal));
     }
-    if let Some(refusal) = bad_parts_bounds(alloc, &def.columns, &def.by, items)? {
+    bounded_parts(alloc, def, spec)
+}
+
+/// The partitions, of which the numbers and VALUES have been asked; or the first bound that may not stand there, and then the first
+/// name.
+fn bounded_parts(
+    alloc: Global,
+    def: &TableDef,
+    spec: &PartSpec,
+) -> Result<Result<Parts, Refusal>, AllocError>
+    requires parts { part_count spec.now ≤ 8192 }
+    requires subs { sub_count spec.now ≤ 8192 }
+    requires sound { ArePartsSound def.now.columns def.now.by spec.now }
+    ensures { IfOk result (λ made. made ≡ refused_or (bad_bounds_or_names def.now spec.now) (parts_of (kinds_of def.now.columns def.now.by) def.now.by spec.now)) }
+{
+    if let Some(refusal) = bad_parts_bounds(alloc, &def.columns, &def.by, defined(spec))? {
         return Ok(Err(refusal));
     }
-    parts_of(alloc, &def.columns, &def.by, spec)
+    let made = parts_of(alloc, &def.columns, &def.by, spec)?;
+    Ok(made)
 }
 
 /// A value beside the answer of a call that may fail.

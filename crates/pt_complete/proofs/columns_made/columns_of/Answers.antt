@@ -1,4 +1,4 @@
-use Rattle.std.proofs.Common.{◌≡◌, ◌∙◌, ap, sym, None}
+use Rattle.std.proofs.Common.{◌∙◌, sym}
 use Rattle.pt_complete.proofs.Columns.{columns_checked, columns_found, columns_more, names_more}
 use Rattle.pt_complete.proofs.Naming.{err_made, none_then}
 use Rattle.pt_complete.proofs.columns_made.columns_of.Goals as goal

@@ -1,4 +1,3 @@
-use Rattle.std.proofs.Common.{sym}
 use Rattle.pt_place.specs.Fitting.{kinds_of}
 use Rattle.pt_complete.proofs.Sound.{entries_are}
 use Rattle.pt_complete.proofs.items_made.values_of.Goals as goal

@@ -1,4 +1,3 @@
-use Rattle.std.proofs.Common.{◌∙◌, ap, sym}
 use Rattle.pt_complete.proofs.Keys.{own_keys_more}
 use Rattle.pt_complete.proofs.keys_made.put_own_keys.Goals as goal
 

@@ -1,4 +1,4 @@
-use Rattle.std.proofs.Common.{◌≡◌, ◌∙◌, ◌++◌, ◌∷◌, [], None, ap, sym, map}
+use Rattle.std.proofs.Common.{◌∙◌, ◌++◌, ◌∷◌, [], None, ap, sym, map}
 use Rattle.std.specs.List.{range_with_len}
 use Rattle.pt_written.specs.WrittenParts.{part_made, subs_named}
 use Rattle.pt_complete.specs.Making.{bad_names_beside}

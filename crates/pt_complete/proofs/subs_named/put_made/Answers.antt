@@ -1,5 +1,5 @@
 use Rattle.std.proofs.Common.{◌∙◌, ◌++◌, ap, sym, subst, arith}
-use Rattle.std.specs.Prelude.{codes, decimal}
+use Rattle.std.specs.Prelude.{codes}
 use Rattle.pt_complete.specs.Making.{IsSpelled}
 use Rattle.pt_complete.proofs.Spelled.{sub_spelled}
 use Rattle.pt_complete.proofs.subs_named.put_made.Goals as goal

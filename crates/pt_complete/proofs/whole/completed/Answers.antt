@@ -1,7 +1,7 @@
-use Rattle.std.proofs.Common.{◌≡◌, ◌∙◌, None, Some, ap, sym, subst}
+use Rattle.std.proofs.Common.{◌≡◌, ◌∙◌, ap, sym, subst}
 use Rattle.std.specs.Prelude.{IfOk}
 use Rattle.pt_place.specs.First.{in_turn}
-use Rattle.pt_written.specs.Complete.{bad_item, bad_spec, bad_written_key, complete_of, partitioned, refused_or}
+use Rattle.pt_written.specs.Complete.{bad_item, bad_written_key, refused_or}
 use Rattle.pt_written.specs.Written.{columns_of, keys_of, keys_written, primary_names}
 use Rattle.pt_complete.proofs.Naming.{made_err, made_ok}
 use Rattle.pt_complete.proofs.Order.{columns_few, columns_refused, keys_refused, spec_whole, unpartitioned}
