@@ -1,5 +1,7 @@
-pub mod Reading
-pub mod Digits
-pub mod WrittenTuples
-pub mod KeyTexts
-pub mod WrittenValues
+pub mod Naming
+pub mod Columns
+pub mod Order
+pub mod Keys
+pub mod Spelled
+pub mod Kept
+pub mod Sound

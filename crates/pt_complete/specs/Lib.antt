@@ -1,5 +1,2 @@
-pub mod Written
-pub mod WrittenParts
-pub mod Complete
-pub mod Reading
-pub mod ReadingValues
+pub mod Fault
+pub mod Making

@@ -1,0 +1,5 @@
+pub mod Written
+pub mod WrittenParts
+pub mod Complete
+pub mod Reading
+pub mod ReadingValues
