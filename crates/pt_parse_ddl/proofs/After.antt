@@ -55,7 +55,7 @@ behind-taken : (s : Symbol) (taken rest : Symbols) → After (s ∷ taken ++ res
 behind-taken s [] rest = first
 behind-taken s (t ∷ taken) rest = later (behind-taken t taken rest)
 
-from_taken : (taken ts rest : Symbols) → ts ≡ taken ++ rest → length rest < length ts → After ts rest
+pub from_taken : (taken ts rest : Symbols) → ts ≡ taken ++ rest → length rest < length ts → After ts rest
 from_taken [] ts rest is h = absurd (omega (arith, ap length is, h))
 from_taken (s ∷ taken) ts rest is h = subst (λ us. After us rest) (sym is) (behind-taken s taken rest)
 

@@ -61,23 +61,23 @@ pub record Given (ts : Symbols) : Type 0 where
 pub given-tail : (s : Symbol) (ts : Symbols) → Given (s ∷ ts) → Given ts
 given-tail s ts g = record { height = open_after s g.height; shallow = g.shallow.1; few = omega (arith, g.few); each = g.each.1 }
 
-behind : {ts rest : Symbols} → After ts rest → Given ts → Given rest
+pub behind : {ts rest : Symbols} → After ts rest → Given ts → Given rest
 behind a g = after-keeps Given given-tail a g
 
-behind-up_to : {ts rest : Symbols} → UpTo ts rest → Given ts → Given rest
+pub behind-up_to : {ts rest : Symbols} → UpTo ts rest → Given ts → Given rest
 behind-up_to a g = up_to-keeps Given given-tail a g
 
-expr-stored : {ts rest : Symbols} {x : Expr} → IsExpr ts x rest → Given ts → IsStorableExpr x
+pub expr-stored : {ts rest : Symbols} {x : Expr} → IsExpr ts x rest → Given ts → IsStorableExpr x
 expr-stored d g = expr-within {room = 64} d (record { low = omega arith; nests = record { most = 64; height = g.height; enough = omega arith; shallow = g.shallow }; counted = omega (arith, g.few); each = g.each })
 
 -- ---- lists
 
-further-counted : {A : Type 0} (R : Symbols → A → Symbols → Type 0) → ((ts rest : Symbols) (x : A) → R ts x rest → After ts rest)
+pub further-counted : {A : Type 0} (R : Symbols → A → Symbols → Type 0) → ((ts rest : Symbols) (x : A) → R ts x rest → After ts rest)
     → {ts rest : Symbols} {xs : List A} → AreFurther R ts xs rest → length xs ≤ length ts
 further-counted R after no_further = omega arith
 further-counted R after (further {ts} {us} {rest} {x} d more) = omega (arith, shorter (after ts us x d), further-counted R after more)
 
-tuple-counted : {A : Type 0} (R : Symbols → A → Symbols → Type 0) → ((ts rest : Symbols) (x : A) → R ts x rest → After ts rest)
+pub tuple-counted : {A : Type 0} (R : Symbols → A → Symbols → Type 0) → ((ts rest : Symbols) (x : A) → R ts x rest → After ts rest)
     → {ts rest : Symbols} {xs : List A} → InTuple R ts xs rest → Given ts → HasAtLeast 1 xs
 tuple-counted R after (in_parens (listed {ts} {us} {rest} {x} d more)) g = (omega arith, omega (arith, g.few, shorter (after ts us x d), further-counted R after more))
 
@@ -88,7 +88,7 @@ repeated-counted R after (again {ts} {us} {rest} {x} d more) = omega (arith, sho
 
 module _ {A : Type 0} (R : Symbols → A → Symbols → Type 0) (after : (ts rest : Symbols) (x : A) → R ts x rest → After ts rest) (S : A → Type 0)
     (stored : (ts rest : Symbols) (x : A) → R ts x rest → Given ts → S x) where
-  further-stored : {ts rest : Symbols} {xs : List A} → AreFurther R ts xs rest → Given ts → AllByRecursion S xs
+  pub further-stored : {ts rest : Symbols} {xs : List A} → AreFurther R ts xs rest → Given ts → AllByRecursion S xs
   further-stored no_further g = tt
   further-stored (further {ts} {us} {rest} {x} d more) g =
       let h = given-tail _ _ g in
@@ -102,13 +102,13 @@ module _ {A : Type 0} (R : Symbols → A → Symbols → Type 0) (after : (ts re
   pub tuple-all : {ts rest : Symbols} {xs : List A} → InTuple R ts xs rest → Given ts → All S xs
   tuple-all {xs = xs} d g = All-from_recursion S xs (tuple-stored d g)
 
-  optional-stored : {ts rest : Symbols} {x : Option A} → IsOptional R ts x rest → Given ts → IfSome x S
+  pub optional-stored : {ts rest : Symbols} {x : Option A} → IsOptional R ts x rest → Given ts → IfSome x S
   optional-stored absent g = tt
   optional-stored (present {ts} {rest} {x} d) g = stored ts rest x d g
 
 -- ---- columns
 
-number-stored : {ts rest : Symbols} {n : ℤ} → IsNumber ts n rest → Given ts → IsNotNegative n
+pub number-stored : {ts rest : Symbols} {n : ℤ} → IsNumber ts n rest → Given ts → IsNotNegative n
 number-stored column.number g = g.each.0
 
 literal-stored : {ts rest : Symbols} {x : Literal} → IsLiteral ts x rest → Given ts → IsStorableLiteral x
@@ -145,7 +145,7 @@ kept-fewer [] = omega arith
 kept-fewer (None ∷ xs) = omega (arith, kept-fewer xs)
 kept-fewer (Some x ∷ xs) = omega (arith, kept-fewer xs)
 
-columns-stored : {ts rest : Symbols} {xs : List (List ℕ)} → AreColumns ts xs rest → Given ts → HasAtLeast 1 xs
+pub columns-stored : {ts rest : Symbols} {xs : List (List ℕ)} → AreColumns ts xs rest → Given ts → HasAtLeast 1 xs
 columns-stored d g = tuple-counted IsName (λ ts rest x n. name-after n) d g
 
 item-stored : (ts rest : Symbols) (x : Item) → IsItem ts x rest → Given ts → IsStorableItem x

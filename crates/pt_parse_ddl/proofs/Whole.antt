@@ -30,10 +30,10 @@ same_tree {x = x} e f = ap (λ r. elim r [ None ↦ x | Some p ↦ p.0 ]) (sym e
 -- ---- expressions that are read to a depth
 
 -- with some parentheses open before them, the symbols open no more than that many
-abbrev Level : ℕ → Symbols → Type 0
+abbrev pub Level : ℕ → Symbols → Type 0
 Level most ts = (height : ℕ) × IsShallow most height ts
 
-level-tail : (most : ℕ) (s : Symbol) (ts : Symbols) → Level most (s ∷ ts) → Level most ts
+pub level-tail : (most : ℕ) (s : Symbol) (ts : Symbols) → Level most (s ∷ ts) → Level most ts
 level-tail most s ts (height, shallow) = (open_after s height, shallow.1)
 
 expr-exact : (most : ℕ) (ts rest : Symbols) (x : Expr) → IsExpr ts x rest → Ends rest → Level most ts → sum (found most) ts ≡ Some (x, rest)
@@ -50,7 +50,7 @@ one ts x y d e =
 
 -- ---- to the depth of a piece
 
-whole-sound : (ts : Symbols) → Sound IsExpr ts (whole ts)
+pub whole-sound : (ts : Symbols) → Sound IsExpr ts (whole ts)
 unfolding whole
 whole-sound ts = expr-sound 64 ts
 
@@ -70,12 +70,12 @@ at_end-sound : {A : Type 0} (R : Symbols → A → Symbols → Type 0) (ts : Sym
 at_end-sound R ts y [] x d e = subst (λ z. R ts z []) (some-same e) d
 at_end-sound R ts y (t ∷ us) x d e = absurd (true≢false (ap (λ o. elim o [ None ↦ true | Some z ↦ false ]) e))
 
-finished-sound : {A : Type 0} (R : Symbols → A → Symbols → Type 0) (ts : Symbols) (r : Reading A) (x : A) → Sound R ts r → finished r ≡ Some x → R ts x []
+pub finished-sound : {A : Type 0} (R : Symbols → A → Symbols → Type 0) (ts : Symbols) (r : Reading A) (x : A) → Sound R ts r → finished r ≡ Some x → R ts x []
 finished-sound R ts (Some p) x d e = at_end-sound R ts p.0 p.1 x d e
 finished-sound R ts None x d e = absurd (true≢false (ap (λ o. elim o [ None ↦ true | Some z ↦ false ]) e))
 
 -- what a function read, with the symbols behind it
-placed-is : {A : Type 0} (all : Symbols) (read : Option (A × ℕ)) (reading : Reading A) → Reads all (Ok read) reading → placed all read ≡ reading
+pub placed-is : {A : Type 0} (all : Symbols) (read : Option (A × ℕ)) (reading : Reading A) → Reads all (Ok read) reading → placed all read ≡ reading
 placed-is all None reading is = sym is
 placed-is all (Some p) reading is = sym is
 

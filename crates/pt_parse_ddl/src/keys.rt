@@ -13,7 +13,7 @@ use pt_value::Ident;
 use std::alloc::Global;
 
 /// Columns in parentheses.
-pub(crate) fn columns(alloc: Global, symbols: &[Symbol], at: usize) -> Reading<Idents>
+pub fn columns(alloc: Global, symbols: &[Symbol], at: usize) -> Reading<Idents>
     requires { at ≤ length symbols.now }
     ensures reads { Reads symbols.now result (steps.tuple steps.named (drop at symbols.now)) }
     ensures place { Reaches (at + 1) symbols.now result }

@@ -52,7 +52,7 @@ fn spelled(alloc: Global, symbols: &[Symbol]) -> Result<Stmt, ParseFault>
 }
 
 /// What was read, where nothing comes after it.
-fn finished<T: Drop>(symbols: &[Symbol], read: Option<(T, usize)>) -> Option<T>
+pub fn finished<T: Drop>(symbols: &[Symbol], read: Option<(T, usize)>) -> Option<T>
     ensures { result ≡ spec.finished (spec.placed symbols.now read) }
 {
     let (x, next) = read?;

@@ -11,7 +11,7 @@ use pt_plain::List;
 use std::alloc::{AllocError, Global};
 
 /// A production.
-pub(crate) trait Rule<T> {
+pub trait Rule<T> {
     /// What is read of some symbols, and what comes after it.
     ghost reading: { Reader T };
 
@@ -36,7 +36,7 @@ pub(crate) trait Skip {
 
 /// A part that may be absent.
 #[tactic(auto, unfolding(crate::specs::Steps::optional))]
-pub(crate) fn optional<T: Drop, R: Rule<T>>(
+pub fn optional<T: Drop, R: Rule<T>>(
     alloc: Global,
     symbols: &[Symbol],
     at: usize,
@@ -107,7 +107,11 @@ fn more_items<T: Drop, R: Rule<T>>(
 
 /// Parts with commas between them, one at least.
 #[tactic(auto, unfolding(crate::specs::Steps::several))]
-fn several<T: Drop, R: Rule<T>>(alloc: Global, symbols: &[Symbol], at: usize) -> Reading<List<T>>
+pub fn several<T: Drop, R: Rule<T>>(
+    alloc: Global,
+    symbols: &[Symbol],
+    at: usize,
+) -> Reading<List<T>>
     requires { at ≤ length symbols.now }
     ensures reads { Reads symbols.now result (spec.several R.reading (drop at symbols.now)) }
     ensures place { Reaches (at + 1) symbols.now result }
@@ -120,11 +124,7 @@ fn several<T: Drop, R: Rule<T>>(alloc: Global, symbols: &[Symbol], at: usize) ->
 
 /// Such a list in parentheses.
 #[tactic(auto, unfolding(crate::specs::Steps::in_parens))]
-pub(crate) fn listed<T: Drop, R: Rule<T>>(
-    alloc: Global,
-    symbols: &[Symbol],
-    at: usize,
-) -> Reading<List<T>>
+pub fn listed<T: Drop, R: Rule<T>>(alloc: Global, symbols: &[Symbol], at: usize) -> Reading<List<T>>
     requires { at ≤ length symbols.now }
     ensures reads { Reads symbols.now result (spec.tuple R.reading (drop at symbols.now)) }
     ensures place { Reaches (at + 1) symbols.now result }

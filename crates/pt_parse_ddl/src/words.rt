@@ -73,7 +73,7 @@ pub(crate) fn word(symbols: &[Symbol], at: usize, keyword: Keyword) -> Option<us
 
 /// A name.
 #[tactic(auto, unfolding(crate::specs::Steps::named))]
-pub(crate) fn name(symbols: &[Symbol], at: usize) -> Option<(Ident, usize)>
+pub fn name(symbols: &[Symbol], at: usize) -> Option<(Ident, usize)>
     requires { at ≤ length symbols.now }
     ensures reads { ReadsSome symbols.now result (spec.named (drop at symbols.now)) }
     ensures place { ReachesSome (at + 1) symbols.now result }
@@ -87,7 +87,7 @@ pub(crate) fn name(symbols: &[Symbol], at: usize) -> Option<(Ident, usize)>
 
 /// A number.
 #[tactic(auto, unfolding(crate::specs::Steps::numbered))]
-pub(crate) fn number(symbols: &[Symbol], at: usize) -> Option<(i128, usize)>
+pub fn number(symbols: &[Symbol], at: usize) -> Option<(i128, usize)>
     requires { at ≤ length symbols.now }
     ensures reads { ReadsSome symbols.now result (spec.numbered (drop at symbols.now)) }
     ensures place { ReachesSome (at + 1) symbols.now result }

@@ -1,11 +1,13 @@
 use crate::columns::put_item;
 use crate::exprs::put_name;
 use crate::partitions::put_by;
+use crate::rows::{put_new, put_query};
 use pt_ast::{Stmt, TableSpec};
 use std::alloc::AllocError;
 
 /// Writes a statement behind a text, with `if` where it has IF EXISTS or IF NOT EXISTS: ``like if `a` `b` ``, ``drop `a` ``, ``show `a` ``,
-/// and ``create `a` (..) (..) by ..`` with its columns, keys and partitioning; other statements are `?`.
+/// and ``create `a` (..) (..) by ..`` with its columns, keys and partitioning; new rows by `put_new` and queries by `put_query`. Other
+/// statements are `?`.
 pub(crate) fn put_stmt(text: &mut String, stmt: &Stmt) -> Result<(), AllocError> {
     match stmt {
         Stmt::Create(only_new, table, spec) => {
@@ -19,6 +21,8 @@ pub(crate) fn put_stmt(text: &mut String, stmt: &Stmt) -> Result<(), AllocError>
         }
         Stmt::Drop(if_there, table) => put_head(text, "drop", *if_there, table.bytes()),
         Stmt::Show(table) => put_head(text, "show", false, table.bytes()),
+        Stmt::Insert(_, new) => put_new(text, new),
+        Stmt::Select(query) => put_query(text, query),
         _ => text.push('?'),
     }
 }

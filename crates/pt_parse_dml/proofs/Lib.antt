@@ -1,0 +1,7 @@
+pub mod Stops
+pub mod Listing
+pub mod OfRows
+pub mod OfTails
+pub mod OfStatements
+pub mod Whole
+pub mod Storing

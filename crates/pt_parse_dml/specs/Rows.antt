@@ -1,0 +1,53 @@
+-- The grammar of the table that a statement on rows speaks of, and of the rows that it puts there.
+--
+--     target  = name [PARTITION cols]
+--     cols    = ( name {, name} )
+--     new     = [INTO] target [cols] rows
+--     rows    = VALUES row {, row}
+--     row     = ( value {, value} )
+--     value   = expr | DEFAULT
+--
+-- After the manual's sections 13.2.5, "INSERT Syntax", and 22.5, "Partition Selection". DEFAULT is a value by itself, and stands in no
+-- expression.
+use Rattle.std.specs.Prelude.{ℕ, List, ◌∷◌, Option}
+use Rattle.pt_ast.specs.declared.tree.Expr.{Expr}
+use Rattle.pt_ast.specs.declared.statement.ValueSpec.{ValueSpec}
+use Rattle.pt_ast.specs.declared.statement.ValueSpec.TheVariants as value
+use Rattle.pt_ast.specs.declared.statement.NewRows.{NewRows}
+use Rattle.pt_parse_expr.specs.declared.alphabet.Reserved.TheVariants as word
+use Rattle.pt_parse_expr.specs.Grammar.{Symbols, IsExpr}
+use Rattle.pt_parse_ddl.specs.Words.{the, IsName}
+use Rattle.pt_parse_ddl.specs.Lists.{IsOptional, AreListed, InTuple}
+use Rattle.pt_parse_ddl.specs.Keys.{AreColumns}
+use Rattle.pt_parse_dml.specs.declared.targets.Target.{Target}
+
+-- PARTITION cols
+pub data ArePartitions : Symbols → List (List ℕ) → Symbols → Type 0 where
+  partitions : {ts rest : Symbols} {names : List (List ℕ)} → AreColumns ts names rest → ArePartitions (the word.Partition ∷ ts) names rest
+
+-- name [PARTITION cols]
+pub data IsTarget : Symbols → Target → Symbols → Type 0 where
+  target : {ts us rest : Symbols} {table : List ℕ} {parts : Option (List (List ℕ))} → IsName ts table us → IsOptional ArePartitions us parts rest
+      → IsTarget ts (record { table = table; parts = parts }) rest
+
+-- [INTO]
+pub data IsInto : Symbols → Unit {0} → Symbols → Type 0 where
+  without : {ts : Symbols} → IsInto ts tt ts
+  into : {rest : Symbols} → IsInto (the word.Into ∷ rest) tt rest
+
+pub data IsValue : Symbols → ValueSpec → Symbols → Type 0 where
+  default : {rest : Symbols} → IsValue (the word.Default ∷ rest) value.Default rest
+  expression : {ts rest : Symbols} {x : Expr} → IsExpr ts x rest → IsValue ts (value.Value x) rest
+
+abbrev pub IsRow : Symbols → List ValueSpec → Symbols → Type 0
+IsRow = InTuple IsValue
+
+-- VALUES row {, row}
+pub data AreRows : Symbols → List (List ValueSpec) → Symbols → Type 0 where
+  rows : {ts rest : Symbols} {values : List (List ValueSpec)} → AreListed IsRow ts values rest → AreRows (the word.Values ∷ ts) values rest
+
+-- [INTO] target [cols] rows
+pub data AreNewRows : Symbols → NewRows → Symbols → Type 0 where
+  new_rows : {ts us vs ws rest : Symbols} {on : Target} {columns : Option (List (List ℕ))} {values : List (List ValueSpec)} → IsInto ts tt us
+      → IsTarget us on vs → IsOptional AreColumns vs columns ws → AreRows ws values rest
+      → AreNewRows ts (record { table = on.table; parts = on.parts; columns = columns; rows = values }) rest
