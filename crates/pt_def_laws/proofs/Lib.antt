@@ -1,0 +1,10 @@
+pub mod Steps
+pub mod Items
+pub mod Columns
+pub mod Nodes
+pub mod Leaves
+pub mod Exprs
+pub mod Parts
+pub mod Whole
+pub mod Defs
+pub mod Files
