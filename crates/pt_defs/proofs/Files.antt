@@ -1,6 +1,7 @@
 -- Files of definitions: reading gives a definition exactly where the bytes spell it.
-use Rattle.std.proofs.Common.{◌≡◌, ℕ, suc, ◌-◌, ◌+◌, ◌<◌, ◌≤◌, ◌^◌, Bool, true, false, cond, ◌==◌, ◌&&◌, List, [], ◌∷◌, ◌++◌, length, take, drop, refl, sym, ap, ap₂, ◌∙◌, subst, arith, append_assoc, append-nil, length-append, length-take, length-drop}
-use Rattle.std.specs.Prelude.{Result, Ok, Err, nat_le}
+use Rattle.std.proofs.Common.{Fits, get_or, ◌≡◌, ℕ, zero, suc, ◌-◌, ◌+◌, ◌<◌, ◌≤◌, ◌^◌, Bool, true, false, cond, ◌==◌, ◌&&◌, List, [], ◌∷◌, ◌++◌, length, take, drop, refl, sym, ap, ap₂, ◌∙◌, subst, arith, append_assoc, append-nil, length-append, length-take, length-drop}
+use Rattle.std.specs.Prelude.{Result, Ok, Err, IfOk, nat_le}
+use Rattle.std.specs.Int.{w8}
 use Rattle.std.specs.Str.{bytes_eq}
 use Rattle.std.proofs.lemmas.Bool.{and_from, and_parts, eq-eqb, eqb-true, le-leb, leb-true}
 use Rattle.std.proofs.lemmas.List.{take_at, drop_at, drop-drop, take-append-drop}
@@ -8,13 +9,18 @@ use Rattle.std.proofs.lemmas.Slice.Eq.{bytes_eq-Decides}
 use Rattle.pt_bytes.specs.Numbers.{AreBytes, le_bytes, number_of}
 use Rattle.pt_bytes.proofs.Numbers.{again, back, below, length-le_bytes}
 use Rattle.pt_ast.specs.declared.table.TableDef.{TableDef}
+use Rattle.pt_ast.specs.StorableDef.{IsStorableDef}
 use Rattle.pt_defs.specs.Spelling.{Spells, body_text, def_text, head_text}
 use Rattle.pt_defs.specs.Reading.{body_at, def_at, has_length, placed}
-use Rattle.pt_def_laws.specs.Fitting.{FitsDef}
-use Rattle.pt_def_laws.specs.Laws.{OneSpelling}
-use Rattle.pt_def_laws.proofs.Steps.{AreBytes-behind, AreBytes-front, one_ok}
-use Rattle.pt_def_laws.proofs.Whole.{body_complete, body_sound}
-use Rattle.pt_def_laws.proofs.Defs.{body_of, storable_of}
+use Rattle.pt_defs.specs.Fitting.{FitsDef}
+use Rattle.pt_defs.specs.Files.{IsFileOf, IsReadFrom}
+use Rattle.pt_defs.specs.Given.{Tells}
+use Rattle.pt_defs.specs.declared.fault.DefRead.{DefRead}
+use Rattle.pt_defs.specs.declared.fault.DefRead.TheVariants as told
+use Rattle.pt_defs.specs.Laws.{OneSpelling}
+use Rattle.pt_defs.proofs.Steps.{AreBytes-behind, AreBytes-front, one_ok}
+use Rattle.pt_defs.proofs.Whole.{body_complete, body_sound}
+use Rattle.pt_defs.proofs.Defs.{body_of, storable_of}
 
 -- ---- what is spelled is read
 
@@ -54,7 +60,7 @@ module _ (body : List ℕ) (few : length body < 2 ^ 64) where
       ∙ ap (λ b. cond b (placed (length file) (body_at 300 (drop 12 file))) (Err 4)) has_it
       ∙ ap (λ (x : List ℕ). placed (length file) (body_at 300 x)) behind_long
 
-reads : (bytes : List ℕ) (def : TableDef) → FitsDef def → Spells bytes def → def_at bytes ≡ Ok def
+pub reads : (bytes : List ℕ) (def : TableDef) → FitsDef def → Spells bytes def → def_at bytes ≡ Ok def
 unfolding def_text
 reads bytes def fits spells =
     ap def_at spells.text
@@ -87,7 +93,7 @@ opened bytes def e = first (bytes_eq (take 4 bytes) head_text) refl e
     first true h f = second ((bytes_eq-Decides (take 4 bytes) head_text).0 h) (has_length bytes) refl f
     first false h f = absurd (let bad : ◌≡◌ {A = Result TableDef ℕ} (Err 0) (Ok def) = f in cc)
 
-spells : (bytes : List ℕ) (def : TableDef) → AreBytes bytes → def_at bytes ≡ Ok def → FitsDef def × Spells bytes def
+pub spells : (bytes : List ℕ) (def : TableDef) → AreBytes bytes → def_at bytes ≡ Ok def → IsFileOf bytes def
 unfolding def_text
 spells bytes def are e =
     let is = opened bytes def e in
@@ -109,19 +115,35 @@ spells bytes def are e =
     let says : number_of number ≡ length (body_text def) = is.says ∙ sym body_long ∙ text_long in
     let few : number_of number < 256 ^ 8 = subst (λ k. number_of number < 256 ^ k) eight (below number are_number) in
     let spelled : number ≡ le_bytes 8 (length (body_text def)) = sym (back number are_number) ∙ ap₂ (λ (k n : ℕ). le_bytes k n) eight says in
-    let both = storable_of def was.is in (
-      both.1,
-      record {
+    let both = storable_of def was.is in
+    record {
+      fits = both.1;
+      spells = record {
         storable = both.0;
         few = omega (arith, few, says);
         text = front ∙ ap₂ (λ (x y : List ℕ). x ++ y) is.head (middle ∙ ap₂ (λ (x y : List ℕ). x ++ y) spelled was.text_is);
-      },
-    )
+      };
+    }
 
 pub one_spelling : OneSpelling
 one_spelling = record {
-  reads = reads;
-  spells = spells;
+  read = λ bytes def are. (spells bytes def are, λ is. reads bytes def is.fits is.spells);
   one_text = λ a b def x y. x.text ∙ sym y.text;
-  one_def = λ bytes a b fits_a fits_b x y. one_ok a b (sym (reads bytes a fits_a x) ∙ reads bytes b fits_b y);
+  one_def = λ bytes a b x y. one_ok a b (sym (reads bytes a x.fits x.spells) ∙ reads bytes b y.fits y.spells);
 }
+
+-- ---- what the calls tell
+
+pub bytes_are : (bytes : List ℕ) → ((i : ℕ) → Fits w8 (get_or bytes i 0)) → AreBytes bytes
+bytes_are [] fit k d lt = absurd (omega arith)
+bytes_are (b ∷ bytes) fit zero d lt = let h : Fits w8 b = fit 0 in omega arith
+bytes_are (b ∷ bytes) fit (suc k) d lt = bytes_are bytes (λ i. fit (suc i)) k d (omega arith)
+
+pub told_file : (r : Result TableDef DefRead) (bytes : List ℕ) → AreBytes bytes → Tells r (def_at bytes) → IsReadFrom r bytes
+told_file (Ok def) bytes are told = spells bytes def are told
+told_file (Err (told.Bad place)) bytes are told = λ def is. let bad : ◌≡◌ {A = Result TableDef ℕ} (Ok def) (Err place) = sym (reads bytes def is.fits is.spells) ∙ told in absurd cc
+told_file (Err told.NoMemory) bytes are told = tt
+
+pub told_storable : (r : Result TableDef DefRead) (bytes : List ℕ) → IsReadFrom r bytes → IfOk r IsStorableDef
+told_storable (Ok def) bytes is = is.spells.storable
+told_storable (Err fault) bytes is = tt

@@ -15,11 +15,11 @@ use Rattle.pt_ast.specs.declared.table.PartDef.{PartDef}
 use Rattle.pt_ast.specs.declared.table.TableDef.{TableDef}
 use Rattle.pt_ast.specs.Storable.{HasAtLeast, IsCounted}
 use Rattle.pt_ast.specs.StorableDef.{AreBoundsOf, AreSubsOf, IsKeptExpr, IsShortValue, IsStorableBy, IsStorableColumn, IsStorableDef, IsStorableKey, IsStorablePartDef, IsStorableTuple, IsSub, IsWholeAlone}
-use Rattle.pt_def_laws.specs.Fitting.{FitsBound, FitsBy, FitsCell, FitsColumn, FitsDef, FitsExpr, FitsPart}
-use Rattle.pt_def_laws.proofs.Columns.{IsCell, IsColumn}
-use Rattle.pt_def_laws.proofs.Exprs.{Good, all_map}
-use Rattle.pt_def_laws.proofs.Parts.{BoundsOf, GoodBy, IsBy, IsPart, KeyIs, MayBe, SubsOf, join_all, split_all}
-use Rattle.pt_def_laws.proofs.Whole.{BehindIs, IsBody}
+use Rattle.pt_defs.specs.Fitting.{FitsBound, FitsBy, FitsCell, FitsColumn, FitsDef, FitsExpr, FitsPart}
+use Rattle.pt_defs.proofs.Columns.{IsCell, IsColumn}
+use Rattle.pt_defs.proofs.Exprs.{Good, all_map}
+use Rattle.pt_defs.proofs.Parts.{BoundsOf, GoodBy, IsBy, IsPart, KeyIs, MayBe, SubsOf, join_all, split_all}
+use Rattle.pt_defs.proofs.Whole.{BehindIs, IsBody}
 
 -- how deep an expression of a file nests at most
 abbrev pub most_deep : ℕ

@@ -23,9 +23,9 @@ use Rattle.pt_ast.specs.Storable.{IsNotNegative}
 use Rattle.pt_ast.specs.StorableDef.{IsFitDate}
 use Rattle.pt_defs.specs.Spelling.{column_place, date_text, flag, func_code, i32_text, i128_text, op_code}
 use Rattle.pt_defs.specs.Reading.{◌>>=◌, Read, Reader, byte_at, date_at, day_at, first_named, func_of, meant, name_of, named_at, number_at, op_at, op_of, pair_at, pass, plus_at, whole_at}
-use Rattle.pt_def_laws.proofs.Steps.{Codec, Was, AreBytes-behind, AreBytes-front, either, first, from_bind, from_meant, from_pass, in_row, last, one_ok, one_some, same_pair}
-use Rattle.pt_def_laws.proofs.Items.{byte_sound, day, number, number_read, number_sound}
-use Rattle.pt_def_laws.proofs.Columns.{named_byte}
+use Rattle.pt_defs.proofs.Steps.{Codec, Was, AreBytes-behind, AreBytes-front, either, first, from_bind, from_meant, from_pass, in_row, last, one_ok, one_some, same_pair}
+use Rattle.pt_defs.proofs.Items.{byte_sound, day, number, number_read, number_sound}
+use Rattle.pt_defs.proofs.Columns.{named_byte}
 
 -- ---- numbers
 

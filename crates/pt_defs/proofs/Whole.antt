@@ -20,10 +20,10 @@ use Rattle.pt_ast.specs.declared.table.TableDef.{TableDef}
 use Rattle.pt_ast.specs.Storable.{HasAtLeast, IsCounted}
 use Rattle.pt_defs.specs.Spelling.{Spells, behind_text, body_text, by_text, column_text, def_text, head_text, key_text, list_text, part_text}
 use Rattle.pt_defs.specs.Reading.{◌>>=◌, Read, Reader, behind_at, body_at, by_at, column_at, count_at, def_at, has_length, key_at, list_at, many, part_def_at, placed}
-use Rattle.pt_def_laws.proofs.Steps.{Codec, Was, AreBytes-behind, AreBytes-front, first, from_bind, in_row, last, one_ok, same_pair}
-use Rattle.pt_def_laws.proofs.Items.{AreSoMany, IsCount, count, so_many}
-use Rattle.pt_def_laws.proofs.Columns.{IsColumn, column}
-use Rattle.pt_def_laws.proofs.Parts.{IsBy, IsPart, KeyIs, at_least, is_by, is_part, one_key}
+use Rattle.pt_defs.proofs.Steps.{Codec, Was, AreBytes-behind, AreBytes-front, first, from_bind, in_row, last, one_ok, same_pair}
+use Rattle.pt_defs.proofs.Items.{AreSoMany, IsCount, count, so_many}
+use Rattle.pt_defs.proofs.Columns.{IsColumn, column}
+use Rattle.pt_defs.proofs.Parts.{IsBy, IsPart, KeyIs, at_least, is_by, is_part, one_key}
 
 -- ---- behind the partitioning
 

@@ -20,11 +20,11 @@ use Rattle.pt_ast.specs.Storable.{HasAtLeast, IsCounted}
 use Rattle.pt_ast.specs.StorableDef.{ArePositions, AreSomePositions, IsShortBound, IsStorableKey, IsStorableTuple}
 use Rattle.pt_defs.specs.Spelling.{bound_text, bounds_text, by_text, cell_text, expr_text, key_text, list_text, name_text, part_text, positions_text, subs_text, tuple_text}
 use Rattle.pt_defs.specs.Reading.{◌>>=◌, Read, Reader, bound_at, bounds_at, by_at, by_behind, byte_at, cell_at, cell_behind, expr_at, key_at, list_at, made, many, name_at, part_def_at, positions_at, subs_at, tuple_at}
-use Rattle.pt_def_laws.specs.Fitting.{FitsBound}
-use Rattle.pt_def_laws.proofs.Steps.{Codec, Was, AreBytes-behind, either, first, from_bind, from_made, in_row, is_number, last, one_ok, same_pair}
-use Rattle.pt_def_laws.proofs.Items.{AreCounted, AreSoMany, byte_sound, name, so_many}
-use Rattle.pt_def_laws.proofs.Columns.{ArePlaces, IsCell, IsKey, IsKeyName, behind_sound, cell, is_key, list, positions}
-use Rattle.pt_def_laws.proofs.Exprs.{Good, expr}
+use Rattle.pt_defs.specs.Fitting.{FitsBound}
+use Rattle.pt_defs.proofs.Steps.{Codec, Was, AreBytes-behind, either, first, from_bind, from_made, in_row, is_number, last, one_ok, same_pair}
+use Rattle.pt_defs.proofs.Items.{AreCounted, AreSoMany, byte_sound, name, so_many}
+use Rattle.pt_defs.proofs.Columns.{ArePlaces, IsCell, IsKey, IsKeyName, behind_sound, cell, is_key, list, positions}
+use Rattle.pt_defs.proofs.Exprs.{Good, expr}
 
 -- the same condition in other words
 pub restated : {A : Type 0} {reader : Reader A} {text : A → List ℕ} (P Q : A → Type 0) → ((x : A) → Q x → P x) → ((x : A) → P x → Q x) → Codec reader text P → Codec reader text Q

@@ -17,12 +17,12 @@ use Rattle.pt_ast.specs.StorableExpr.{BeginsWithPlus, IsStorableNode, depth, dep
 use Rattle.pt_ast.specs.StorableDef.{IsKeptNode}
 use Rattle.pt_defs.specs.Spelling.{expr_text, factor_text, flag, func_code, list_text, node_text, op_code, term_text}
 use Rattle.pt_defs.specs.Reading.{◌>>=◌, Read, Reader, byte_at, call_at, count_at, date_at, expr_at, factors_at, flag_at, func_of, list_at, made, many, named_at, node_behind, op_at, pair_at, plus_at, product_at, string_at, terms_at, whole_at}
-use Rattle.pt_def_laws.specs.Fitting.{FitsNode}
-use Rattle.pt_def_laws.proofs.Steps.{Codec, Was, AreBytes-behind, either, first, from_bind, from_made, from_meant, from_pass, in_row, last, one_ok, one_some, same_pair}
-use Rattle.pt_def_laws.proofs.Items.{AreCounted, AreSoMany, IsCount, byte_sound, count, so_many, string}
-use Rattle.pt_def_laws.proofs.Columns.{is_flag, list}
-use Rattle.pt_def_laws.proofs.Nodes.{depth_kids, depth_roll, every_kids, every_roll, kids}
-use Rattle.pt_def_laws.proofs.Leaves.{IsNamed, date, func_only, is_op, named_column, pair, plus, whole}
+use Rattle.pt_defs.specs.Fitting.{FitsNode}
+use Rattle.pt_defs.proofs.Steps.{Codec, Was, AreBytes-behind, either, first, from_bind, from_made, from_meant, from_pass, in_row, last, one_ok, one_some, same_pair}
+use Rattle.pt_defs.proofs.Items.{AreCounted, AreSoMany, IsCount, byte_sound, count, so_many, string}
+use Rattle.pt_defs.proofs.Columns.{is_flag, list}
+use Rattle.pt_defs.proofs.Nodes.{depth_kids, depth_roll, every_kids, every_roll, kids}
+use Rattle.pt_defs.proofs.Leaves.{IsNamed, date, func_only, is_op, named_column, pair, plus, whole}
 
 -- ---- facts of lists
 

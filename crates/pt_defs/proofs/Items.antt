@@ -17,7 +17,7 @@ use Rattle.pt_ast.specs.StorableDef.{IsShort}
 use Rattle.pt_defs.specs.Spelling.{i32_text, i64_text, list_text, name_text, string_text}
 use Rattle.pt_defs.specs.Reading.{◌>>=◌, Read, Reader, byte_at, count_at, day_at, int_at, is_ident, list_at, made, many, name_at, number_at, part_at, pass, position_at, short_at, string_at}
 use Rattle.pt_defs.proofs.Fields.{ident_is, part_enough}
-use Rattle.pt_def_laws.proofs.Steps.{Codec, Was, AreBytes-behind, AreBytes-front, first, from_bind, from_field, from_made, from_pass, in_row, last, one_ok, same_pair}
+use Rattle.pt_defs.proofs.Steps.{Codec, Was, AreBytes-behind, AreBytes-front, first, from_bind, from_field, from_made, from_pass, in_row, last, one_ok, same_pair}
 
 -- ---- parts
 

@@ -18,9 +18,9 @@ use Rattle.pt_ast.specs.declared.table.KeyDef.{KeyDef}
 use Rattle.pt_ast.specs.StorableDef.{IsNamedByRank, IsShortValue, IsStorableColumn}
 use Rattle.pt_defs.specs.Spelling.{cell_text, column_text, default_text, flag, i32_text, i64_text, key_text, kind_text, list_text, name_text, positions_text, rank_code, string_text}
 use Rattle.pt_defs.specs.Reading.{◌>>=◌, Read, Reader, byte_at, cell_at, cell_behind, column_at, count_at, day_at, default_at, flag_at, int_at, key_at, key_name_at, kind_at, kind_behind, list_at, made, many, may_name, meant, name_at, number_at, pass, plus_at, position_at, positions_at, rank_at, rank_of, string_at}
-use Rattle.pt_def_laws.specs.Fitting.{FitsCell, FitsColumn, FitsKind}
-use Rattle.pt_def_laws.proofs.Steps.{Codec, Was, AreBytes-behind, either, first, from_bind, from_made, from_meant, from_pass, in_row, last, one_ok, one_some, same_pair}
-use Rattle.pt_def_laws.proofs.Items.{AreCounted, AreSoMany, IsCount, byte_sound, count, day, int, name, number, position, so_many, string}
+use Rattle.pt_defs.specs.Fitting.{FitsCell, FitsColumn, FitsKind}
+use Rattle.pt_defs.proofs.Steps.{Codec, Was, AreBytes-behind, either, first, from_bind, from_made, from_meant, from_pass, in_row, last, one_ok, one_some, same_pair}
+use Rattle.pt_defs.proofs.Items.{AreCounted, AreSoMany, IsCount, byte_sound, count, day, int, name, number, position, so_many, string}
 
 -- ---- a list behind how many items it has
 
