@@ -1,0 +1,7 @@
+pub mod Faults
+pub mod Named
+pub mod Cells
+pub mod Queries
+pub mod Ordered
+pub mod Wanted
+pub mod Printed
