@@ -2,7 +2,7 @@
 use Rattle.std.specs.Prelude.{ℕ, Bool, List}
 use Rattle.pt_ast.specs.declared.database.Db.{Db}
 use Rattle.pt_ast.specs.declared.written.TableSpec.{TableSpec}
-use Rattle.pt_complete.specs.Complete.{complete_of}
+use Rattle.pt_written.specs.Complete.{complete_of}
 use Rattle.pt_db.specs.Outcome.{Outcome, passed}
 use Rattle.pt_step.specs.Fresh.{where_new, with_fresh}
 

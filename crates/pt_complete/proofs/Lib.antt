@@ -1,5 +1,0 @@
-pub mod Reading
-pub mod Digits
-pub mod WrittenTuples
-pub mod KeyTexts
-pub mod WrittenValues

@@ -1,7 +1,0 @@
-use Rattle.std.proofs.Common.{◌≡◌, drop}
-use Rattle.std.specs.List.{list_any}
-use Rattle.pt_complete.specs.Reading.{is_primary_of}
-use Rattle.pt_complete.proofs.written_columns.is_in_some_primary.Given as goal
-
-abbrev pub invariant-loop-item : goal.invariant-loop-item
-invariant-loop-item l = list_any (is_primary_of l.name) (drop l.item-index l.items) ≡ list_any (is_primary_of l.name) l.items

@@ -1,9 +1,0 @@
-use Rattle.std.proofs.Common.{◌≡◌, drop, map}
-use Rattle.std.specs.List.{list_any}
-use Rattle.pt_complete.specs.Complete.{is_wrong_written}
-use Rattle.pt_place.specs.Fitting.{kinds_of}
-use Rattle.pt_complete.specs.WrittenParts.{entry_items}
-use Rattle.pt_complete.proofs.written_values.has_wrong_entry.Given as goal
-
-abbrev pub invariant-loop-entry : goal.invariant-loop-entry
-invariant-loop-entry l = list_any (is_wrong_written l.less (kinds_of l.columns l.by)) (map entry_items (drop l.entry-index l.entries)) ≡ list_any (is_wrong_written l.less (kinds_of l.columns l.by)) (map entry_items l.entries)

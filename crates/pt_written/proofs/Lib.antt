@@ -1,0 +1,4 @@
+pub mod Digits
+pub mod WrittenTuples
+pub mod KeyTexts
+pub mod WrittenValues
