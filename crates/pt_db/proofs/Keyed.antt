@@ -1,12 +1,11 @@
 -- Lists that rise strictly by a key are maps from keys to items: look-ups after changes, and two lists with the same look-ups.
-use Rattle.std.proofs.Common.{◌≡◌, ◌≢◌, ℕ, Bool, true, false, cond, not, List, [], ◌∷◌, ◌++◌, map, Option, Some, None, refl, sym, ap, ap₂, ◌∙◌, subst, Ordering, Less, Equal, Greater}
+use Rattle.std.proofs.Common.{◌≡◌, ◌≢◌, Bool, true, false, cond, not, List, [], ◌∷◌, map, Some, None, refl, sym, ap, ap₂, ◌∙◌, subst, Ordering, Less, Equal, Greater}
 use Rattle.std.specs.Bool.{Decides}
 use Rattle.std.specs.List.{AllByRecursion, All, filter, find}
 use Rattle.std.specs.List.Sorted.{IsStrictlySortedBy}
 use Rattle.std.specs.Cmp.{IsTotalOrder}
 use Rattle.std.specs.Option.{option_map}
 use Rattle.std.specs.Ordering.{is_eq, match_ordering, ordering_reverse}
-use Rattle.std.proofs.lemmas.Bool.{true≢false}
 use Rattle.std.proofs.lemmas.List.Elements.{All-cons, All-head, All-nil, All-tail}
 use Rattle.std.proofs.lemmas.Map.Entries.{option_filter}
 use Rattle.std.proofs.lemmas.Map.Keys.{sorted_head, sorted_tail}
@@ -33,13 +32,13 @@ module _ {X K : Type 0} (cmp : K → K → Ordering) (eq : K → K → Bool) (te
 
   -- ---- keys
 
-  less_back : (a b : K) → cmp a b ≡ Greater → cmp b a ≡ Less
+  pub less_back : (a b : K) → cmp a b ≡ Greater → cmp b a ≡ Less
   less_back a b e = tells.order.antisymm b a ∙ ap ordering_reverse e
 
-  less_other : (a b : K) → cmp a b ≡ Less → eq a b ≡ false
+  pub less_other : (a b : K) → cmp a b ≡ Less → eq a b ≡ false
   less_other a b e = sym (tells.ties a b) ∙ ap is_eq e
 
-  not_equal : (a b : K) → eq a b ≡ false → eq b a ≡ false
+  pub not_equal : (a b : K) → eq a b ≡ false → eq b a ≡ false
   not_equal a b other = by_test (eq b a) refl
     where
       by_test : (t : Bool) → eq b a ≡ t → t ≡ false
@@ -56,14 +55,14 @@ module _ {X K : Type 0} (cmp : K → K → Ordering) (eq : K → K → Bool) (te
   pub itself : (a : K) → eq a a ≡ true
   itself a = (tells.same a a).1 refl
 
-  exact : (a b : K) → cmp a b ≡ Equal → a ≡ b
+  pub exact : (a b : K) → cmp a b ≡ Equal → a ≡ b
   exact a b e = (tells.same a b).0 (sym (tells.ties a b) ∙ ap is_eq e)
 
-  all_above : (low k : K) (keys : List K) → cmp low k ≡ Less → AllByRecursion (λ y. cmp k y ≡ Less) keys → AllByRecursion (λ y. cmp low y ≡ Less) keys
+  pub all_above : (low k : K) (keys : List K) → cmp low k ≡ Less → AllByRecursion (λ y. cmp k y ≡ Less) keys → AllByRecursion (λ y. cmp low y ≡ Less) keys
   all_above low k [] less each = tt
   all_above low k (y ∷ keys) less each = (tells.order.trans low k y less each.0, all_above low k keys less each.1)
 
-  head_of : (x : X) (xs : List X) → Rises (x ∷ xs) → AllByRecursion (λ y. cmp (key x) y ≡ Less) (map key xs)
+  pub head_of : (x : X) (xs : List X) → Rises (x ∷ xs) → AllByRecursion (λ y. cmp (key x) y ≡ Less) (map key xs)
   head_of x xs = sorted_head cmp (key x) (map key xs)
 
   pub tail_of : (x : X) (xs : List X) → Rises (x ∷ xs) → Rises xs

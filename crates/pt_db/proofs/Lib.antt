@@ -4,3 +4,6 @@ pub mod Serials
 pub mod Numbered
 pub mod Spots
 pub mod Sounds
+pub mod RowSounds
+pub mod Searched
+pub mod Found

@@ -1,19 +1,18 @@
 -- Tables by their names: look-ups after changes, and lists with the same table at each name.
-use Rattle.std.proofs.Common.{◌≡◌, ◌≢◌, ℕ, Bool, true, false, cond, List, [], ◌∷◌, map, Option, Some, None, refl, sym, ap, ◌∙◌, subst}
+use Rattle.std.proofs.Common.{◌≡◌, ◌≢◌, ℕ, Bool, true, false, cond, List, Option, Some, None, refl, sym, ap, ◌∙◌, subst}
 use Rattle.std.specs.Cmp.Lexicographic.{slice_cmp}
-use Rattle.std.specs.List.{All, find}
-use Rattle.std.specs.Option.{is_some, option_map}
+use Rattle.std.specs.List.{All}
+use Rattle.std.specs.Option.{option_map}
 use Rattle.std.specs.Ordering.{nat_cmp}
 use Rattle.std.specs.Str.{bytes_eq}
 use Rattle.std.proofs.lemmas.Cmp.{nat_list_cmp_total}
 use Rattle.std.proofs.lemmas.Map.Text.{is_eq-slice_cmp}
 use Rattle.std.proofs.lemmas.Slice.Eq.{bytes_eq-Decides}
-use Rattle.pt_ast.specs.declared.database.Db.{Db}
 use Rattle.pt_ast.specs.declared.database.Row.{Row}
 use Rattle.pt_ast.specs.declared.database.Table.{Table}
 use Rattle.pt_ast.specs.declared.table.TableDef.{TableDef}
 use Rattle.pt_ast.specs.Rising.{NamesRise}
-use Rattle.pt_db.specs.Lookup.{is_called, table_in, table_of, with_both, with_changed, with_def, with_rows, with_table, without_table}
+use Rattle.pt_db.specs.Lookup.{is_called, table_in, with_both, with_changed, with_def, with_rows, with_table, without_table}
 use Rattle.pt_db.proofs.Keyed as keyed
 use Rattle.pt_db.proofs.Keyed.{TellsApart}
 

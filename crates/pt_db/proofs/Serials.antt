@@ -5,15 +5,14 @@ use Rattle.std.specs.List.{All, filter, find}
 use Rattle.std.specs.List.Sorted.{IsStrictlySortedBy}
 use Rattle.std.specs.Option.{option_map, option_or}
 use Rattle.std.specs.Ordering.{is_eq, nat_cmp}
-use Rattle.std.proofs.lemmas.Bool.{eq-eqb, eqb-true, lt-ltb, ltb-true, ne_eqb, true≢false}
+use Rattle.std.proofs.lemmas.Bool.{eq-eqb, eqb-true, lt-ltb, ltb-true, ne_eqb}
 use Rattle.std.proofs.lemmas.Bool.Decides.{Decides-eqb}
 use Rattle.std.proofs.lemmas.List.{map-append}
 use Rattle.std.proofs.lemmas.List.Elements.{All-weaker, recursion_from_All, All-map}
-use Rattle.std.proofs.lemmas.List.Folds.{find-append}
 use Rattle.std.proofs.lemmas.Map.Entries.{option_filter}
 use Rattle.pt_value.specs.declared.value.Value.{Value}
 use Rattle.pt_ast.specs.declared.database.Row.{Row}
-use Rattle.pt_plain.proofs.Rising.{sorted_nil, sorted_push}
+use Rattle.pt_plain.proofs.Rising.{sorted_push}
 use Rattle.pt_db.specs.Rows.{AreRising, is_numbered, others, row_at, with_cells, with_row}
 use Rattle.pt_db.proofs.Keyed as keyed
 use Rattle.pt_db.proofs.Keyed.{TellsApart}

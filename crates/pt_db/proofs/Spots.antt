@@ -1,8 +1,8 @@
 -- Every placed row stands in a spot of its table, and the spots' rows are all of them.
-use Rattle.std.proofs.Common.{◌≡◌, ◌≢◌, ℕ, zero, suc, ◌+◌, ◌<◌, ◌==◌, Bool, true, false, cond, not, ◌&&◌, ◌||◌, List, [], ◌∷◌, ◌++◌, length, map, get_or, Option, Some, None, refl, sym, ap, ap₂, subst, ◌∙◌, arith}
-use Rattle.std.specs.List.{All, Contains, filter, flat_map, range_with_len}
-use Rattle.std.specs.Option.{IsSome, is_some, option_map, option_map_or}
-use Rattle.std.proofs.lemmas.Bool.{and_from, and_parts, cases_Bool, eq-eqb, eqb-true, not-false, true≢false}
+use Rattle.std.proofs.Common.{◌≡◌, ℕ, zero, suc, ◌+◌, ◌<◌, ◌==◌, Bool, true, false, cond, not, ◌&&◌, ◌||◌, List, [], ◌∷◌, length, get_or, Option, Some, None, refl, sym, ap, ap₂, subst, ◌∙◌, arith}
+use Rattle.std.specs.List.{All, range_with_len}
+use Rattle.std.specs.Option.{IsSome, option_map, option_map_or}
+use Rattle.std.proofs.lemmas.Bool.{and_from, and_parts, eq-eqb, eqb-true, not-false, true≢false}
 use Rattle.std.proofs.lemmas.List.FromFn.{get_or-range_with_len, length-range_with_len}
 use Rattle.std.proofs.lemmas.List.Elements.{All-map}
 use Rattle.std.proofs.lemmas.Map.Entries.{option_filter}
@@ -21,7 +21,7 @@ use Rattle.pt_place.proofs.Firsts.{none_first, none_next, passes}
 use Rattle.pt_place.proofs.Passing.{Passed, passed}
 use Rattle.pt_plain.proofs.Pairs.{all_flat_map}
 use Rattle.pt_db.specs.Rows.{AreRising, is_at, is_spot, row_at, spot_rows}
-use Rattle.pt_db.specs.Sound.{AreSoundRows, IsSoundRow}
+use Rattle.pt_db.specs.Sound.{AreSoundRows}
 use Rattle.pt_db.specs.Spots.{IsSpotOf, part_count, spot_at, spots_in, spots_of, sub_count}
 use Rattle.pt_db.proofs.Numbered.{numbered_below, part_below}
 use Rattle.pt_db.proofs.Serials.{row_filtered, row_holds, same_rows}

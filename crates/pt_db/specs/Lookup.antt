@@ -1,6 +1,6 @@
 -- Tables by their names, which are compared byte by byte: MySQL 5.7 manual, section 9.2.3, "Identifier Case Sensitivity", where names
 -- of tables are stored and compared as they are written.
-use Rattle.std.specs.Prelude.{ℕ, Bool, not, List, [], map, filter, find, Option, if◌then◌else◌}
+use Rattle.std.specs.Prelude.{◌≡◌, ℕ, ◌<◌, ◌≤◌, Bool, not, List, [], map, filter, find, insert, length, slice_index_or, Option, Some, None, if◌then◌else◌}
 use Rattle.std.specs.Str.{bytes_eq}
 use Rattle.std.specs.Ordering.{nat_cmp}
 use Rattle.std.specs.Cmp.Lexicographic.{slice_cmp}
@@ -22,11 +22,22 @@ table_in tables name = find (is_called name) tables
 abbrev pub table_of : Db → List ℕ → Option Table
 table_of db name = table_in db.tables name
 
+-- where the table of this name stands
+pub record IsPlaceOf (tables : List Table) (name : List ℕ) (at : ℕ) : Type 0 where
+  pub within : at < length tables
+  pub there : (other : Table) → table_in tables name ≡ Some (slice_index_or tables at other)
+
 -- ---- changes
 
 -- with this table in its place by rising name; one of the same name goes
 abbrev pub with_table : Table → List Table → List Table
 with_table = in_place (slice_cmp nat_cmp) (λ table. table.name)
+
+-- where a table of this name, which isn't there, would stand
+pub record IsPlaceFor (tables : List Table) (name : List ℕ) (at : ℕ) : Type 0 where
+  pub within : at ≤ length tables
+  pub absent : table_in tables name ≡ None
+  pub added : (table : Table) → table.name ≡ name → with_table table tables ≡ insert tables at table
 
 -- without the table of this name
 abbrev pub without_table : List ℕ → List Table → List Table

@@ -4,6 +4,7 @@ use Rattle.std.specs.Fmt.{decimal}
 use Rattle.pt_ast.specs.declared.refusal.Arg.{Arg}
 use Rattle.pt_ast.specs.declared.refusal.Arg.TheVariants as arg
 use Rattle.pt_ast.specs.declared.refusal.Refusal.{Refusal}
+use Rattle.pt_ast.specs.declared.reply.Reply.{Reply}
 use Rattle.pt_ast.specs.Refusals.{Listed, listed}
 
 -- a line ends with a line feed
@@ -37,3 +38,7 @@ count_text count = line (codes "ok " ++ decimal count)
 -- rows that were inserted and skipped, inserted and deleted, matched and changed: `ok COUNT COUNT`
 abbrev pub counts_text : ℕ → ℕ → List ℕ
 counts_text first second = line (codes "ok " ++ decimal first ++ codes " " ++ decimal second)
+
+-- an answer that is no refusal
+abbrev pub answered : List ℕ → Reply
+answered text = record { code = 0; text = text }

@@ -1,0 +1,6 @@
+use Rattle.std.proofs.Common.{rules}
+use Rattle.std.proofs.lemmas.List.Sorted.{answers_always}
+use Rattle.pt_db.proofs.lookup.search.Goals as goal
+
+pub returns-clause-place : goal.returns-clause-place
+returns-clause-place c = c.binary_search_by_key.ensures.position (λ table. table.name) (answers_always _ _ _ (λ f a r g called. search rules))
