@@ -1,0 +1,3 @@
+pub mod Lower
+pub mod Added
+pub mod Told
