@@ -48,14 +48,18 @@ bad_kind arg k (Ok own) = refused_if (not (has_kind k own)) (refusal.TypeMismatc
 abbrev pub value_for : List Column → List Value → Kind → Expr → Value
 value_for columns cells k expr = whole_value columns expr (is_date k) cells
 
--- A value of a row has its first fault, or it is of another kind than the column, or the column has no room for it. No column is there
--- to be named within VALUES. DEFAULT has none of these.
-abbrev pub bad_value : ℕ → Kind → ValueSpec → Option Refusal
-bad_value number k value.Default = None
-bad_value number k (value.Value expr) = first_of (
+-- An expression as a value of a row has its first fault, or it is of another kind than the column, or the column has no room for it. No
+-- column is there to be named within VALUES.
+abbrev pub bad_expr : ℕ → Kind → Expr → Option Refusal
+bad_expr number k expr = first_of (
     bad_kind (arg.Number number) k (checked [] expr (is_date k))
     ∷ refused_if (not (is_in_range k (value_for [] [] k expr))) (refusal.OutOfRange (arg.Number number))
     ∷ [])
+
+-- DEFAULT has none of these
+abbrev pub bad_value : ℕ → Kind → ValueSpec → Option Refusal
+bad_value number k value.Default = None
+bad_value number k (value.Value expr) = bad_expr number k expr
 
 -- the same for the column at a position
 abbrev pub bad_given : List Column → ℕ → ℕ × ValueSpec → Option Refusal

@@ -5,3 +5,4 @@ pub mod Queries
 pub mod Ordered
 pub mod Wanted
 pub mod Printed
+pub mod Given

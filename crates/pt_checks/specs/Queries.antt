@@ -31,9 +31,13 @@ abbrev pub bad_cond : List ℕ → List Column → Option Cond → Option Refusa
 bad_cond table columns (Some cond) = of_finding (arg.Name table) (checked_cond columns cond)
 bad_cond table columns None = None
 
+-- a column of ORDER BY
+abbrev pub bad_by : List Column → List ℕ × Bool → Option Refusal
+bad_by columns by = no_column columns by.0
+
 -- ORDER BY
 abbrev pub bad_order : List Column → List (List ℕ × Bool) → Option Refusal
-bad_order columns order = first_in (λ (by : List ℕ × Bool). no_column columns by.0) order
+bad_order columns order = first_in (bad_by columns) order
 
 -- WHERE, then ORDER BY
 abbrev pub bad_tail : TableDef → List ℕ → Tail → Option Refusal

@@ -4,7 +4,7 @@ use Rattle.std.specs.Prelude.{ℕ, ℤ, unsigned_abs, Bool, true, false, ◌&&�
 use Rattle.std.specs.Option.{option_map, option_map_or}
 use Rattle.std.specs.declared.cmp.Ordering.{Ordering}
 use Rattle.std.specs.declared.cmp.Ordering.TheVariants.{Equal}
-use Rattle.std.specs.Ordering.{nat_cmp, ordering_reverse, ordering_then}
+use Rattle.std.specs.Ordering.{nat_cmp, ordering_then}
 use Rattle.pt_value.specs.Value.{value_cmp}
 use Rattle.pt_value.specs.declared.value.Value.{Value}
 use Rattle.pt_value.specs.declared.value.Value.TheVariants.{Null}
@@ -46,15 +46,21 @@ is_wanted def parts cond row = is_in_parts def parts row.cells && passes def.col
 
 -- ---- in which order
 
--- the positions of the columns of ORDER BY, each true for DESC
-abbrev pub order_of : List Column → List (List ℕ × Bool) → List (ℕ × Bool)
-order_of columns order = filter_map (λ (by : List ℕ × Bool). option_map (λ at. (at, by.1)) (column_of columns by.0)) order
+-- the position of a column of ORDER BY, true for DESC
+abbrev pub by_of : List Column → List ℕ × Bool → Option (ℕ × Bool)
+by_of columns by = option_map (λ at. (at, by.1)) (column_of columns by.0)
 
--- by the cells at one position, the other way round for DESC
+-- the positions of all of them
+abbrev pub order_of : List Column → List (List ℕ × Bool) → List (ℕ × Bool)
+order_of columns order = filter_map (by_of columns) order
+
+-- by the cells at one position
+abbrev pub at_cmp : ℕ → List Value → List Value → Ordering
+at_cmp at a b = value_cmp (slice_index_or a at Null) (slice_index_or b at Null)
+
+-- the other way round for DESC
 abbrev pub cell_cmp : ℕ × Bool → List Value → List Value → Ordering
-cell_cmp by a b =
-    let order = value_cmp (slice_index_or a by.0 Null) (slice_index_or b by.0 Null) in
-    if by.1 then ordering_reverse order else order
+cell_cmp by a b = if by.1 then at_cmp by.0 b a else at_cmp by.0 a b
 
 -- by the first of these columns that differs
 abbrev pub cells_cmp : List (ℕ × Bool) → List Value → List Value → Ordering

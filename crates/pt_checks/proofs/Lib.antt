@@ -1,0 +1,7 @@
+pub mod Positions
+pub mod Checking
+pub mod Fitting
+pub mod Given
+pub mod Lines
+pub mod Sorting
+pub mod Orders

@@ -1,0 +1,7 @@
+use Rattle.std.proofs.Common.{◌≡◌, drop}
+use Rattle.pt_place.specs.First.{first_in}
+use Rattle.pt_checks.specs.Named.{no_column}
+use Rattle.pt_checks.proofs.named.missing_column.Given as goal
+
+abbrev pub invariant-loop-name : goal.invariant-loop-name
+invariant-loop-name l = first_in (no_column l.columns) (drop l.name-index l.names) ≡ first_in (no_column l.columns) l.names
