@@ -4,5 +4,8 @@ pub mod Like
 pub mod DropTable
 pub mod Show
 pub mod Insert
+pub mod Growth
+pub mod Filled
 pub mod Select
 pub mod Step
+pub mod Law

@@ -14,14 +14,14 @@ use Rattle.pt_step.specs.Insert.{insert}
 use Rattle.pt_step.specs.Select.{select}
 
 -- The statements that have a step so far. The others come with later definitions.
-abbrev pub IsCovered : Stmt → Type 0
-IsCovered (stmt.Create if_not table spec) = Unit {0}
-IsCovered (stmt.Like if_not table other) = Unit {0}
-IsCovered (stmt.Drop if_there table) = Unit {0}
-IsCovered (stmt.Show table) = Unit {0}
-IsCovered (stmt.Insert false new) = Unit {0}
-IsCovered (stmt.Select query) = Unit {0}
-IsCovered _ = ⊥
+abbrev pub is_covered : Stmt → Bool
+is_covered (stmt.Create if_not table spec) = true
+is_covered (stmt.Like if_not table other) = true
+is_covered (stmt.Drop if_there table) = true
+is_covered (stmt.Show table) = true
+is_covered (stmt.Insert false new) = true
+is_covered (stmt.Select query) = true
+is_covered _ = false
 
 -- What a statement comes to. Those that aren't covered do nothing here.
 abbrev pub step : Db → Stmt → Outcome
