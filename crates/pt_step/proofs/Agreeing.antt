@@ -1,5 +1,5 @@
 -- Cells agree on a unique key where they agree on a key that is unique.
-use Rattle.std.proofs.Common.{◌≡◌, ℕ, Bool, true, false, cond, ◌||◌, ◌&&◌, List, [], ◌∷◌, map, refl, ap}
+use Rattle.std.proofs.Common.{◌≡◌, Bool, true, false, cond, ◌||◌, ◌&&◌, List, [], ◌∷◌, map, refl, ap}
 use Rattle.std.specs.List.{list_any, filter}
 use Rattle.pt_value.specs.declared.value.Value.{Value}
 use Rattle.pt_ast.specs.declared.table.KeyDef.{KeyDef}

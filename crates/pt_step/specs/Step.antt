@@ -1,5 +1,5 @@
 -- The step of the model: what a statement leaves of a database and what it answers.
-use Rattle.std.specs.Prelude.{ℕ, Bool, true, false, List}
+use Rattle.std.specs.Prelude.{Bool, true, false}
 use Rattle.pt_ast.specs.declared.database.Db.{Db}
 use Rattle.pt_ast.specs.declared.reply.Reply.{Reply}
 use Rattle.pt_ast.specs.declared.statement.Stmt.{Stmt}

@@ -1,6 +1,6 @@
-use Rattle.std.proofs.Common.{◌≡◌, ◌<◌, ◌^◌, ◌∙◌, false, None, Ok, sym, rules}
+use Rattle.std.proofs.Common.{◌≡◌, ◌<◌, ◌^◌, ◌∙◌, false, None, sym, rules}
 use Rattle.pt_db.specs.Sound.{has_wrong_null}
-use Rattle.pt_step.specs.Insert.{bad_cells, fill_cells, with_added}
+use Rattle.pt_step.specs.Insert.{bad_cells, with_added}
 use Rattle.pt_step.proofs.Growing.{cells_sound, filled_cells, same_nulls}
 use Rattle.pt_step.proofs.filling.fill_cells.Goals as goal
 

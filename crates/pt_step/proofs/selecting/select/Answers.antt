@@ -1,11 +1,9 @@
 use Rattle.std.proofs.Common.{◌≡◌, ◌∙◌, ap, Some, subst, sym, rules}
 use Rattle.std.specs.List.{All}
-use Rattle.std.proofs.lemmas.List.Elements.{All-weaker}
 use Rattle.pt_ast.specs.declared.database.Row.{Row}
 use Rattle.pt_expr.specs.Columns.{AreFitting}
 use Rattle.pt_checks.specs.Wanted.{candidates}
 use Rattle.pt_db.specs.Lookup.{table_of}
-use Rattle.pt_db.specs.Sound.{IsSoundRow}
 use Rattle.pt_db.proofs.Sounds.{sound_table}
 use Rattle.pt_step.proofs.Taken.{rows_fit, candidates_all}
 use Rattle.pt_step.proofs.selecting.select.Goals as goal
