@@ -1,0 +1,11 @@
+pub mod Fresh
+pub mod Create
+pub mod Like
+pub mod DropTable
+pub mod Show
+pub mod Insert
+pub mod Growth
+pub mod Filled
+pub mod Select
+pub mod Step
+pub mod Law
