@@ -1,0 +1,6 @@
+pub mod Holds
+pub mod Fit
+pub mod Bad
+pub mod RowChanges
+pub mod ShapeChanges
+pub mod Batch
