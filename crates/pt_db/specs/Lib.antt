@@ -1,5 +1,6 @@
 pub mod Texts
 pub mod Outcome
+pub mod Ordered
 pub mod Lookup
 pub mod Rows
 pub mod Spots

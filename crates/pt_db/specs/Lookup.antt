@@ -1,13 +1,14 @@
 -- Tables by their names, which are compared byte by byte: MySQL 5.7 manual, section 9.2.3, "Identifier Case Sensitivity", where names
 -- of tables are stored and compared as they are written.
-use Rattle.std.specs.Prelude.{ℕ, Bool, not, List, [], ◌∷◌, map, filter, find, Option, if◌then◌else◌}
+use Rattle.std.specs.Prelude.{ℕ, Bool, not, List, [], map, filter, find, Option, if◌then◌else◌}
 use Rattle.std.specs.Str.{bytes_eq}
-use Rattle.std.specs.Ordering.{nat_cmp, match_ordering}
+use Rattle.std.specs.Ordering.{nat_cmp}
 use Rattle.std.specs.Cmp.Lexicographic.{slice_cmp}
 use Rattle.pt_ast.specs.declared.database.Db.{Db}
 use Rattle.pt_ast.specs.declared.database.Row.{Row}
 use Rattle.pt_ast.specs.declared.database.Table.{Table}
 use Rattle.pt_ast.specs.declared.table.TableDef.{TableDef}
+use Rattle.pt_db.specs.Ordered.{in_place}
 
 -- the table has this name
 abbrev pub is_called : List ℕ → Table → Bool
@@ -25,9 +26,7 @@ table_of db name = table_in db.tables name
 
 -- with this table in its place by rising name; one of the same name goes
 abbrev pub with_table : Table → List Table → List Table
-with_table table [] = table ∷ []
-with_table table (other ∷ tables) =
-    match_ordering (slice_cmp nat_cmp table.name other.name) (table ∷ other ∷ tables) (table ∷ tables) (other ∷ with_table table tables)
+with_table = in_place (slice_cmp nat_cmp) (λ table. table.name)
 
 -- without the table of this name
 abbrev pub without_table : List ℕ → List Table → List Table

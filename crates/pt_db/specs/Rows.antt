@@ -1,13 +1,14 @@
 -- Rows by their serials. A table's rows are a map from serials to cells, which is written as a list by rising serial.
 use Rattle.std.specs.Prelude.{ℕ, Bool, false, not, ◌&&◌, ◌==◌, List, [], ◌∷◌, map, filter, Option, Some, None, if◌then◌else◌}
 use Rattle.std.specs.Option.{option_map_or}
-use Rattle.std.specs.Ordering.{nat_cmp, match_ordering}
+use Rattle.std.specs.Ordering.{nat_cmp}
 use Rattle.std.specs.List.Sorted.{IsStrictlySortedBy}
 use Rattle.pt_value.specs.declared.value.Value.{Value}
 use Rattle.pt_ast.specs.declared.database.Row.{Row}
 use Rattle.pt_ast.specs.declared.database.Spot.{Spot}
 use Rattle.pt_ast.specs.declared.table.TableDef.{TableDef}
 use Rattle.pt_place.specs.Place.{place_of}
+use Rattle.pt_db.specs.Ordered.{in_place}
 
 -- the row has this serial
 abbrev pub is_numbered : ℕ → Row → Bool
@@ -47,5 +48,4 @@ with_cells serial cells rows = map (λ row. if is_numbered serial row then recor
 
 -- with this row in its place by rising serial; one of the same serial goes
 abbrev pub with_row : Row → List Row → List Row
-with_row row [] = row ∷ []
-with_row row (other ∷ rows) = match_ordering (nat_cmp row.serial other.serial) (row ∷ other ∷ rows) (row ∷ rows) (other ∷ with_row row rows)
+with_row = in_place nat_cmp (λ row. row.serial)
