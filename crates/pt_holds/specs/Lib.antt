@@ -4,3 +4,5 @@ pub mod Bad
 pub mod RowChanges
 pub mod ShapeChanges
 pub mod Batch
+pub mod Acts
+pub mod Laws

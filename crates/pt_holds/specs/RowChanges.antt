@@ -38,8 +38,8 @@ changed_at deletes puts rows serial = option_or (row_at (rows_put puts) serial) 
 abbrev pub AreApart : List (Spot × ℕ) → Type 0
 AreApart deletes = AllPairs (λ (a b : Spot × ℕ). a.1 ≢ b.1) deletes
 
-abbrev pub AreOnce : List Row → Type 0
-AreOnce rows = AllPairs (λ (a b : Row). a.serial ≢ b.serial) rows
+abbrev pub AreOnce : List (Spot × Row) → Type 0
+AreOnce puts = AllPairs (λ (a b : Spot × Row). a.1.serial ≢ b.1.serial) puts
 
 -- nothing comes where something stays
 abbrev pub AreNew : List (Spot × ℕ) → List (Spot × Row) → List Row → Type 0
@@ -72,6 +72,6 @@ pub record IsChangeOf (change : RowChange) (db later : Db) : Type 0 where
   pub in_place : IsInPlace change table
   pub each : (serial : ℕ) → row_at rows serial ≡ changed_at change.deletes change.puts table.rows serial
   pub apart : AreApart change.deletes
-  pub once : AreOnce (rows_put change.puts)
+  pub once : AreOnce change.puts
   pub new : AreNew change.deletes change.puts table.rows
   pub sound : IsSound later
