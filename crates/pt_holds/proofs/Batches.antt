@@ -1,9 +1,8 @@
 -- The batch of a change.
-use Rattle.std.proofs.Common.{◌≡◌, ◌≢◌, ◌⊎◌, inl, inr, ℕ, suc, ◌+◌, ◌*◌, ◌<◌, ◌≤◌, ◌^◌, Bool, true, false, cond, List, [], ◌∷◌, ◌++◌, length, map, get_or, Option, Some, None, refl, sym, ap, ap₂, ◌∙◌, subst, arith, append-nil, length-append, Less, Equal, Greater, Ordering}
+use Rattle.std.proofs.Common.{◌≡◌, ◌≢◌, ◌⊎◌, inl, inr, ℕ, ◌<◌, ◌^◌, Bool, true, false, cond, List, [], ◌∷◌, ◌++◌, length, map, get_or, Option, Some, None, refl, sym, ap, ap₂, ◌∙◌, subst, arith, append-nil, length-append, Less}
 use Rattle.std.specs.Prelude.{codes}
 use Rattle.std.specs.Cmp.Lexicographic.{slice_cmp}
-use Rattle.std.specs.List.{All, AllPairs, AllByRecursion, Contains, filter, flat_map}
-use Rattle.std.specs.List.Sorted.{IsStrictlySortedBy}
+use Rattle.std.specs.List.{All, AllPairs, AllByRecursion, flat_map}
 use Rattle.std.specs.Option.{IsSome, is_some, option_map, unwrap_or}
 use Rattle.std.specs.Ordering.{is_eq, nat_cmp}
 use Rattle.std.specs.Str.{bytes_eq}
@@ -41,7 +40,7 @@ use Rattle.pt_holds.specs.declared.change.RowChange.{RowChange}
 use Rattle.pt_holds.proofs.FileNames.{rows_not_serials}
 use Rattle.pt_holds.proofs.Leaves.{one_leaf}
 use Rattle.pt_holds.proofs.Left.{deletes_of, puts_of}
-use Rattle.pt_holds.proofs.Texts.{all_text, other_text}
+use Rattle.pt_holds.proofs.Texts.{other_text}
 
 -- ---- rising files stand once each
 

@@ -1,4 +1,4 @@
-use Rattle.std.proofs.Common.{◌++◌, Some, sym, subst, ap, ◌∙◌}
+use Rattle.std.proofs.Common.{◌++◌, Some, ap, ◌∙◌}
 use Rattle.pt_rowfile.specs.declared.record.Record.TheVariants.{Delete}
 use Rattle.pt_rowfile.specs.Records.{record_bytes}
 use Rattle.pt_store.specs.Contents.{files_in}

@@ -1,4 +1,4 @@
-use Rattle.std.proofs.Common.{ℕ, List, length, subst, take_all}
+use Rattle.std.proofs.Common.{ℕ, subst, take_all}
 use Rattle.std.specs.List.{All}
 use Rattle.pt_ast.specs.declared.database.Spot.{Spot}
 use Rattle.pt_rowfile.specs.declared.record.Record.TheVariants.{Delete}

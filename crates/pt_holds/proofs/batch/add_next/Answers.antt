@@ -1,4 +1,4 @@
-use Rattle.std.proofs.Common.{ℕ, List, ◌≡◌, ◌++◌, Some, sym, subst, ap, ◌∙◌}
+use Rattle.std.proofs.Common.{ℕ, List, ◌≡◌, ◌++◌, Some, subst, ap, ◌∙◌}
 use Rattle.pt_bytes.specs.Numbers.{le_bytes}
 use Rattle.pt_store.specs.Contents.{files_in}
 use Rattle.pt_store.proofs.Maps.{put_in}
