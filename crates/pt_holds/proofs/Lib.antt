@@ -1,0 +1,9 @@
+pub mod Left
+pub mod FileNames
+pub mod Leaves
+pub mod InSpots
+pub mod Held
+pub mod Changed
+pub mod Short
+pub mod Texts
+pub mod Batches
