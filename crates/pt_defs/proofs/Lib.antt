@@ -1,3 +1,13 @@
 pub mod Texts
 pub mod Fields
 pub mod Loops
+pub mod Steps
+pub mod Items
+pub mod Columns
+pub mod Nodes
+pub mod Leaves
+pub mod Exprs
+pub mod Parts
+pub mod Whole
+pub mod Defs
+pub mod Files

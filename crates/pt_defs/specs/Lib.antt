@@ -1,3 +1,6 @@
 pub mod Spelling
+pub mod Fitting
+pub mod Files
 pub mod Reading
 pub mod Given
+pub mod Laws

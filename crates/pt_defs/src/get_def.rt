@@ -1,6 +1,8 @@
 //! Reading partitions, and the whole definition.
-ghost use Rattle.std.specs.Prelude.{◌≡◌, drop, take};
+ghost use Rattle.std.specs.Prelude.{◌≡◌, IfOk, drop, take};
 ghost use Rattle.std.specs.Str.{bytes_eq};
+ghost use Rattle.pt_ast.specs.StorableDef.{IsStorableDef};
+ghost use Rattle.pt_defs.specs.Files.{IsReadFrom};
 ghost use Rattle.pt_defs.specs.Spelling.{head_text};
 ghost use Rattle.pt_defs.specs.Given.{Gives, Tells};
 ghost use Rattle.pt_defs.specs.Reading.{behind_at, body_at, bound_at, bounds_at, by_at, by_behind, column_at, def_at, has_length, key_at, list_at, many, name_at, part_def_at, subs_at, tuple_at};
@@ -312,8 +314,17 @@ const ROOM: u32 = 300;
 
 /// The definition that these bytes spell, or the place of the first field that can't be read. It takes no more memory than the
 /// definition.
-#[tactic(auto, unfolding(crate::specs::Reading::def_at))]
 pub fn def_of_bytes(alloc: Global, bytes: &[u8]) -> Result<TableDef, DefRead>
+    ensures tells { Tells result (def_at bytes.now) }
+    ensures file { IsReadFrom result bytes.now }
+    ensures storable { IfOk result IsStorableDef }
+{
+    file_at(alloc, bytes)
+}
+
+/// The definition that a file is read to.
+#[tactic(auto, unfolding(crate::specs::Reading::def_at))]
+fn file_at(alloc: Global, bytes: &[u8]) -> Result<TableDef, DefRead>
     ensures { Tells result (def_at bytes.now) }
 {
     if !begins(bytes) {

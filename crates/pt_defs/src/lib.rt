@@ -3,6 +3,8 @@
 //! - `def_bytes` writes the one spelling of a definition (`Spells` of `specs/Spelling.antt`).
 //! - `def_of_bytes` reads it, field by field in the order of the file, and tells the place of the first field that can't be read
 //!   (`def_at` of `specs/Reading.antt`).
+//! - `one_spelling` is a theorem: reading gives a definition exactly where the bytes spell it, so a definition has one spelling, and
+//!   bytes spell one definition.
 //!
 //! Writing and reading take memory in proportion to the definition. It stands on `pt_ast`, and on `pt_bytes` for numbers.
 #![tactic(auto)]
@@ -21,11 +23,13 @@ mod fault;
 mod get_def;
 mod get_expr;
 mod get_item;
+mod laws;
 mod put_def;
 mod put_expr;
 mod put_item;
 
 pub use fault::DefRead;
 pub use get_def::def_of_bytes;
+pub use laws::one_spelling;
 pub use put_def::def_bytes;
 pub use put_item::rank_code;

@@ -1,7 +1,9 @@
 //! Writing partitions, and the whole definition.
-ghost use Rattle.std.specs.Prelude.{◌≡◌, ◌++◌, IfOk, OnOk};
+ghost use Rattle.std.specs.Prelude.{◌≡◌, ◌++◌, IfOk, Ok, OnOk};
 ghost use Rattle.std.specs.List.{flat_map};
 ghost use Rattle.pt_ast.specs.StorableDef.{IsStorableDef};
+ghost use Rattle.pt_defs.specs.Fitting.{FitsDef};
+ghost use Rattle.pt_defs.specs.Reading.{def_at};
 ghost use Rattle.pt_defs.specs.Spelling.{Spells, behind_text, body_text, bound_text, bounds_text, by_text, column_text, key_text, list_text, name_text, part_text, subs_text, tuple_text};
 
 use crate::put_expr::put_expr;
@@ -16,7 +18,8 @@ pub(crate) const HEAD: [u8; 4] = [80, 84, 68, 1];
 /// The bytes of a definition: its one spelling.
 pub fn def_bytes(alloc: Global, def: &TableDef) -> Result<Vec<u8>, AllocError>
     requires { IsStorableDef def.now }
-    ensures { IfOk result (λ bytes. Spells bytes.items def.now) }
+    ensures spelled { IfOk result (λ bytes. Spells bytes.items def.now) }
+    ensures reads_back { IfOk result (λ bytes. FitsDef def.now → def_at bytes.items ≡ Ok def.now) }
 {
     let mut body = Vec::new(alloc);
     put_body(&mut body, def)?;

@@ -1,6 +1,7 @@
-use crate::files::{put_cuts, put_file, put_same, put_show};
+use crate::files::{put_body, put_cuts, put_file, put_same, put_show};
 use crate::names::{put_leaf, put_names, put_owner};
 use pt_bytes::one_number;
+use pt_defs::one_spelling;
 use pt_names::one_owner;
 use std::alloc::{AllocError, Global};
 
@@ -14,6 +15,7 @@ pub fn answer(alloc: Global, out: &mut String, line: &str) -> Result<(), AllocEr
         "show" => put_show(alloc, out, rest),
         "cuts" => put_cuts(alloc, out, rest),
         "file" => put_file(alloc, out, rest),
+        "body" => put_body(alloc, out, rest),
         "same" => put_same(alloc, out, rest),
         "names" => put_names(out, rest),
         "leaf" => put_leaf(out, rest),
@@ -27,6 +29,7 @@ pub fn answer(alloc: Global, out: &mut String, line: &str) -> Result<(), AllocEr
 fn put_laws(out: &mut String) -> Result<(), AllocError> {
     one_number();
     one_owner();
+    one_spelling();
     out.push_str("laws")
 }
 

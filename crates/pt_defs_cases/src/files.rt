@@ -1,7 +1,9 @@
+ghost use Rattle.pt_ast.specs.StorableDef.{IsStorableDef};
+
 use crate::answers::{put_plain, split};
 use pt_ast::TableDef;
 use pt_bytes::{put_bytes, put_u64};
-use pt_defs::{DefRead, def_of_bytes};
+use pt_defs::{DefRead, def_bytes, def_of_bytes};
 use pt_show::{same_structure, show_create};
 use pt_value::Ident;
 use std::alloc::{AllocError, Global};
@@ -52,15 +54,38 @@ fn put_text(alloc: Global, out: &mut String, def: &TableDef) -> Result<(), Alloc
     put_plain(out, text.items())
 }
 
-/// Writes whether bytes are a definition file.
+/// Writes whether bytes are a definition file, and whether the definition's file is these bytes.
 pub fn put_file(alloc: Global, out: &mut String, digits: &str) -> Result<(), AllocError> {
-    match def_of_bytes(alloc, &bytes_of(alloc, digits)) {
+    put_read(alloc, out, &bytes_of(alloc, digits))
+}
+
+/// The same of the file with this body.
+pub fn put_body(alloc: Global, out: &mut String, digits: &str) -> Result<(), AllocError> {
+    let file = with_head(alloc, &bytes_of(alloc, digits))?;
+    put_read(alloc, out, &file)
+}
+
+fn put_read(alloc: Global, out: &mut String, file: &[u8]) -> Result<(), AllocError> {
+    match def_of_bytes(alloc, file) {
         Ok(def) => {
+            let told = put_again(alloc, out, &def, file);
             drop(def);
-            out.push_str("ok")
+            told
         }
         Err(fault) => put_fault(out, fault),
     }
+}
+
+/// Writes whether the bytes of a definition are these.
+fn put_again(alloc: Global, out: &mut String, def: &TableDef, file: &[u8]) -> Result<(), AllocError>
+    requires { IsStorableDef def.now }
+{
+    let again = def_bytes(alloc, def)?;
+    out.push_str(if again.as_slice() == file {
+        "ok"
+    } else {
+        "differs"
+    })
 }
 
 /// Writes the places of a body that is cut before each of its bytes.

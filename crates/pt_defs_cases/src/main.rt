@@ -4,7 +4,8 @@
 //! |---|---|
 //! | `show BODY` | the text of the table `t` with this definition, `|` for a line's end; or `bad` and a place |
 //! | `cuts BODY` | the places that the body is told with, cut before each of its bytes |
-//! | `file BYTES` | `ok`, or `bad` and a place |
+//! | `file BYTES` | `ok` where the definition that is read is written as these bytes, else `differs`; or `bad` and a place |
+//! | `body BODY` | the same of a body |
 //! | `same BODY BODY` | `same` where both have the same structure, else `differ` |
 //! | `names TABLE` | the names of the files of a table's definition and rows |
 //! | `leaf TABLE LEAF` | the name of the file of a partition's rows |
