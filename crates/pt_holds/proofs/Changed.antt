@@ -1,7 +1,7 @@
 -- Files with a batch hold the changed database.
-use Rattle.std.proofs.Common.{◌≡◌, ◌≢◌, ◌⊎◌, inl, inr, ℕ, ◌+◌, ◌-◌, ◌*◌, ◌/◌, ◌%◌, ◌<◌, ◌≤◌, ◌^◌, Bool, true, false, cond, ◌&&◌, List, [], ◌∷◌, ◌++◌, length, drop, Option, Some, None, Result, Ok, Err, refl, sym, ap, ap₂, ◌∙◌, subst, arith, length-append, append-nil}
-use Rattle.std.specs.Prelude.{nat_eq, nat_le, nat_lt}
-use Rattle.std.specs.List.{All, AllByRecursion, filter, flat_map}
+use Rattle.std.proofs.Common.{◌≡◌, ◌≢◌, ◌⊎◌, inl, inr, ℕ, ◌+◌, ◌-◌, ◌*◌, ◌/◌, ◌%◌, ◌<◌, ◌≤◌, ◌^◌, Bool, true, false, cond, ◌&&◌, List, [], ◌++◌, length, Option, Some, None, Ok, Err, refl, sym, ap, ap₂, ◌∙◌, subst, arith, length-append, append-nil}
+use Rattle.std.specs.Prelude.{nat_eq}
+use Rattle.std.specs.List.{All, AllByRecursion, flat_map}
 use Rattle.std.specs.Option.{IsSomeAnd, IsSome, is_some, option_map, option_or, unwrap_or}
 use Rattle.std.proofs.lemmas.Bool.{eq-eqb, ne_eqb, lt-ltb, le-leb, eqb-true, true≢false}
 use Rattle.std.proofs.lemmas.List.{drop_at}
@@ -31,16 +31,15 @@ use Rattle.pt_store.proofs.Listing.{appended_read}
 use Rattle.pt_db.specs.Lookup.{table_of}
 use Rattle.pt_db.specs.Rows.{AreRising, is_at, is_spot, row_at, spot_rows}
 use Rattle.pt_db.specs.Sound.{IsSoundTable}
-use Rattle.pt_db.specs.Spots.{IsSpotOf}
 use Rattle.pt_db.proofs.Lookups.{table_other, table_same}
 use Rattle.pt_db.proofs.Serials.{filtered_rise, same_rows}
 use Rattle.pt_db.proofs.Sounds.{sound_table}
 use Rattle.pt_db.proofs.Spots.{in_spot, spot_same}
 use Rattle.pt_holds.specs.Batch.{IsBatchOf, IsRowFileOf, deletes_in, puts_in, records_in}
-use Rattle.pt_holds.specs.Holds.{HasLeaf, Holds, HoldsAt, HoldsTable, spot_file}
+use Rattle.pt_holds.specs.Holds.{Holds, HoldsAt, HoldsTable, spot_file}
 use Rattle.pt_holds.specs.RowChanges.{AreApart, AreOnce, IsChangeOf, changed_at, is_deleted, kept, rows_put}
 use Rattle.pt_holds.specs.declared.change.RowChange.{RowChange}
-use Rattle.pt_holds.proofs.FileNames.{def_not_rows, def_not_serials, rows_not_serials}
+use Rattle.pt_holds.proofs.FileNames.{def_not_rows, def_not_serials}
 use Rattle.pt_holds.proofs.Held.{by_name, elsewhere, holds_same, ident}
 use Rattle.pt_holds.proofs.InSpots.{spot_changed, spot_new}
 use Rattle.pt_holds.proofs.Left.{deletes_of, left_both, left_deletes, left_puts, puts_of, spells_more}

@@ -1,23 +1,21 @@
 -- Which database files hold: that of each name by itself, and one at most.
-use Rattle.std.proofs.Common.{◌≡◌, ◌≢◌, ℕ, ◌+◌, ◌-◌, ◌%◌, ◌<◌, ◌≤◌, ◌^◌, Bool, true, false, cond, ◌&&◌, List, [], ◌∷◌, ◌++◌, length, drop, map, Option, Some, None, Result, Ok, Err, refl, sym, ap, ap₂, ◌∙◌, subst, arith, length-append}
+use Rattle.std.proofs.Common.{◌≡◌, ◌≢◌, ℕ, Bool, true, false, List, [], ◌∷◌, length, map, Option, Some, None, Result, Ok, refl, sym, ap, ap₂, ◌∙◌, subst, arith, length-append}
 use Rattle.std.specs.Prelude.{IfSome}
-use Rattle.std.specs.List.{All, AllByRecursion, flat_map}
-use Rattle.std.specs.Option.{IsSomeAnd, IsSome, option_map, unwrap_or}
+use Rattle.std.specs.List.{AllByRecursion, flat_map}
+use Rattle.std.specs.Option.{IsSomeAnd, option_map, unwrap_or}
 use Rattle.std.specs.Str.{bytes_eq}
 use Rattle.std.proofs.lemmas.Bool.{true≢false}
 use Rattle.std.proofs.lemmas.Slice.Eq.{bytes_eq-Decides}
 use Rattle.pt_value.specs.Ident.{IsIdent}
 use Rattle.pt_host.specs.Disk.{Files}
 use Rattle.pt_host.specs.Images.{AreSame}
-use Rattle.pt_names.specs.Names.{def_name, lowered, row_name, serials_name}
+use Rattle.pt_names.specs.Names.{def_name, row_name, serials_name}
 use Rattle.pt_names.proofs.Owners.{defs}
 use Rattle.pt_ast.specs.declared.database.Db.{Db}
 use Rattle.pt_ast.specs.declared.database.Row.{Row}
-use Rattle.pt_ast.specs.declared.database.Spot.{Spot}
 use Rattle.pt_ast.specs.declared.database.Table.{Table}
 use Rattle.pt_ast.specs.declared.table.TableDef.{TableDef}
 use Rattle.pt_place.specs.Place.{leaf_of}
-use Rattle.pt_place.specs.Valid.{IsValid}
 use Rattle.pt_defs.specs.Reading.{def_at}
 use Rattle.pt_rowfile.specs.declared.record.Record.{Record}
 use Rattle.pt_rowfile.specs.Counter.{counter_of}
@@ -25,7 +23,7 @@ use Rattle.pt_rowfile.specs.Records.{IsRecord, record_bytes}
 use Rattle.pt_rowfile.specs.Rows.{SpellsRows, left}
 use Rattle.pt_rowfile.proofs.Parts.{one_some}
 use Rattle.pt_rowfile.proofs.Records.{one_record, record_takes}
-use Rattle.pt_db.specs.Lookup.{added_to, empty_db, removed_from, table_of, without_table}
+use Rattle.pt_db.specs.Lookup.{table_of}
 use Rattle.pt_db.specs.Rows.{spot_rows}
 use Rattle.pt_db.specs.Sound.{AreSoundRows, IsSound, IsSoundTable}
 use Rattle.pt_db.specs.Spots.{IsSpotOf}

@@ -1,7 +1,7 @@
 -- What stands at each serial in a spot after a change.
-use Rattle.std.proofs.Common.{◌≡◌, ◌≢◌, ◌⊎◌, inl, inr, ℕ, ◌==◌, Bool, true, false, cond, ◌||◌, List, [], ◌∷◌, map, Option, Some, None, refl, sym, ap, ap₂, ◌∙◌, subst}
-use Rattle.std.specs.List.{All, filter, list_any}
-use Rattle.std.specs.Option.{IsSomeAnd, IsSome, is_some, option_map_or, option_or}
+use Rattle.std.proofs.Common.{◌≡◌, ◌≢◌, ◌⊎◌, inl, inr, ℕ, ◌==◌, Bool, true, false, cond, ◌||◌, List, [], ◌∷◌, Option, Some, None, refl, sym, ap, ap₂, ◌∙◌, subst}
+use Rattle.std.specs.List.{All}
+use Rattle.std.specs.Option.{IsSomeAnd, option_map_or, option_or}
 use Rattle.std.proofs.lemmas.Bool.{eqb-true, true≢false}
 use Rattle.std.proofs.lemmas.List.Elements.{All-head, All-tail}
 use Rattle.std.proofs.lemmas.Map.Entries.{option_filter}
@@ -12,7 +12,7 @@ use Rattle.pt_ast.specs.declared.database.Spot.{Spot}
 use Rattle.pt_ast.specs.declared.table.TableDef.{TableDef}
 use Rattle.pt_place.specs.Place.{place_of}
 use Rattle.pt_db.specs.Rows.{AreRising, is_spot, row_at, spot_rows}
-use Rattle.pt_db.proofs.Spots.{placed_there, spot_row_at, stands_in, stands_there}
+use Rattle.pt_db.proofs.Spots.{spot_row_at, stands_in}
 use Rattle.pt_holds.specs.Batch.{deletes_in, puts_in}
 use Rattle.pt_holds.specs.RowChanges.{AreNew, AreOnce, changed_at, is_deleted, kept, rows_put}
 use Rattle.pt_holds.proofs.Left.{kept_none, put_absent}

@@ -1,9 +1,8 @@
 -- No two spots of a valid definition have one leaf.
-use Rattle.std.proofs.Common.{◌≡◌, ◌≢◌, ℕ, zero, suc, ◌<◌, ◌==◌, Bool, true, false, cond, ◌||◌, List, [], ◌∷◌, ◌++◌, length, map, Option, Some, None, refl, sym, ap, ap₂, ◌∙◌, subst, arith}
+use Rattle.std.proofs.Common.{◌≡◌, ℕ, zero, suc, ◌<◌, Bool, true, false, cond, List, [], ◌∷◌, ◌++◌, length, map, Option, Some, None, refl, sym, ap, ap₂, ◌∙◌, subst, arith}
 use Rattle.std.specs.Prelude.{slice_get}
-use Rattle.std.specs.List.{list_any}
 use Rattle.std.specs.Option.{option_map}
-use Rattle.std.specs.Str.{bytes_eq, str_eq_ignore_ascii_case}
+use Rattle.std.specs.Str.{str_eq_ignore_ascii_case}
 use Rattle.std.proofs.lemmas.Bool.{or_parts, or_left, or_right, true≢false}
 use Rattle.std.proofs.lemmas.List.{length-map}
 use Rattle.std.proofs.lemmas.List.Folds.{list_any-append}
@@ -11,11 +10,8 @@ use Rattle.std.proofs.lemmas.Slice.Eq.{bytes_eq-Decides}
 use Rattle.pt_ast.specs.declared.database.Spot.{Spot}
 use Rattle.pt_ast.specs.declared.refusal.Refusal.{Refusal}
 use Rattle.pt_ast.specs.declared.refusal.Refusal.TheVariants as refusal
-use Rattle.pt_ast.specs.declared.table.PartBy.{PartBy}
-use Rattle.pt_ast.specs.declared.table.PartBy.TheVariants as by
 use Rattle.pt_ast.specs.declared.table.PartDef.{PartDef}
 use Rattle.pt_ast.specs.declared.table.TableDef.{TableDef}
-use Rattle.pt_ast.specs.StorableDef.{IsStorableDef, IsWholeAlone}
 use Rattle.pt_names.specs.Names.{lowered}
 use Rattle.pt_place.specs.Checks.{bad_bounds, is_whole, name_twice, part_names, too_many}
 use Rattle.pt_place.specs.First.{first_in, first_of, in_turn, in_turn_from, refused_if}

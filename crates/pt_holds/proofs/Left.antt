@@ -1,12 +1,11 @@
 -- What the records of deletes and puts leave of rows, serial by serial.
-use Rattle.std.proofs.Common.{◌≡◌, ◌≢◌, ◌⊎◌, inl, inr, ℕ, ◌<◌, ◌==◌, nat_lt, Bool, true, false, cond, not, ◌&&◌, ◌||◌, List, [], ◌∷◌, ◌++◌, map, Option, Some, None, refl, sym, ap, ap₂, ◌∙◌, subst, Less, Equal, Greater}
-use Rattle.std.specs.List.{All, AllPairs, AllByRecursion, filter, flat_map, list_any}
+use Rattle.std.proofs.Common.{◌≡◌, ◌≢◌, ◌⊎◌, inl, inr, ℕ, ◌==◌, nat_lt, Bool, true, false, cond, not, ◌&&◌, ◌||◌, List, [], ◌∷◌, ◌++◌, map, Option, Some, None, refl, sym, ap, ap₂, ◌∙◌, subst, Less, Equal, Greater}
+use Rattle.std.specs.List.{All, AllByRecursion, flat_map}
 use Rattle.std.specs.Option.{IsSome, is_some, option_and_then, option_or}
 use Rattle.std.specs.Ordering.{nat_cmp, match_ordering}
-use Rattle.std.proofs.lemmas.Bool.{eq-eqb, eqb-true, ne_eqb, not-false, true≢false}
+use Rattle.std.proofs.lemmas.Bool.{eq-eqb, eqb-true, ne_eqb, true≢false}
 use Rattle.std.proofs.lemmas.Grind.{flat_map-append}
-use Rattle.std.proofs.lemmas.List.{append_assoc}
-use Rattle.std.proofs.lemmas.List.Elements.{All-head, All-tail, All-weaker}
+use Rattle.std.proofs.lemmas.List.Elements.{All-head, All-tail}
 use Rattle.std.proofs.lemmas.Map.Keys.{sorted_head, sorted_tail}
 use Rattle.pt_plain.proofs.Pairs.{pairs_head, pairs_tail}
 use Rattle.pt_value.specs.declared.value.Value.{Value}
@@ -18,9 +17,8 @@ use Rattle.pt_rowfile.specs.Records.{IsRecord, record_bytes}
 use Rattle.pt_rowfile.specs.Rows.{Spells, SpellsRows, after, has_row, is_serial, left}
 use Rattle.pt_rowfile.specs.Rows as file
 use Rattle.pt_rowfile.proofs.Parts.{one_some}
-use Rattle.pt_rowfile.proofs.Records.{one_record, record_takes}
-use Rattle.pt_db.specs.Rows.{AreRising, is_numbered, others, row_at, with_row}
-use Rattle.pt_db.proofs.Serials.{by_serials, cells_found, others_rise, row_added, row_beside, row_gone, row_left, row_placed, serial_of, with_row_rises}
+use Rattle.pt_db.specs.Rows.{AreRising, others, row_at, with_row}
+use Rattle.pt_db.proofs.Serials.{by_serials, cells_found, others_rise, row_beside, row_gone, row_left, row_placed, serial_of, with_row_rises}
 use Rattle.pt_db.proofs.Keyed.{below_absent}
 use Rattle.pt_holds.specs.RowChanges.{AreApart, AreOnce, is_deleted, kept, rows_put}
 

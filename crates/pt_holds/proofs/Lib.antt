@@ -4,3 +4,6 @@ pub mod Leaves
 pub mod InSpots
 pub mod Held
 pub mod Changed
+pub mod Short
+pub mod Texts
+pub mod Batches

@@ -6,3 +6,4 @@ pub mod ShapeChanges
 pub mod Batch
 pub mod Acts
 pub mod Laws
+pub mod Texts
