@@ -38,7 +38,7 @@ module _ (primary names : List (List ℕ)) (name : List ℕ) (written : KindSpec
 -- ---- the columns
 
 -- names don't depend on the primary key
-names_same : (p q : List (List ℕ)) (items : List Item) → names_of (filter_map (column_in p) items) ≡ names_of (filter_map (column_in q) items)
+pub names_same : (p q : List (List ℕ)) (items : List Item) → names_of (filter_map (column_in p) items) ≡ names_of (filter_map (column_in q) items)
 names_same p q [] = refl
 names_same p q (text.Column name written options ∷ items) = ap (λ l. name ∷ l) (names_same p q items)
 names_same p q (text.Key rank name columns ∷ items) = names_same p q items

@@ -5,3 +5,10 @@ pub mod Keys
 pub mod Spelled
 pub mod Kept
 pub mod Sound
+pub mod ValidNames
+pub mod ValidCounts
+pub mod ValidColumns
+pub mod ValidKeys
+pub mod ValidKinds
+pub mod ValidValues
+pub mod Valid

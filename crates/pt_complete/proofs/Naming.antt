@@ -109,7 +109,7 @@ listed_first before part all = record { made = refl; named = sym (append-nil bef
 
 -- ---- names of partitions
 
-abbrev second : Named → List ℕ
+abbrev pub second : Named → List ℕ
 second named = named.1
 
 beside_turns : (before : List Named) (part : List ℕ) (names : List (List ℕ)) → in_turn_from bad_name before (map (λ (name : List ℕ). (part, name)) names) ≡ bad_names_beside (map second before) part names
@@ -121,7 +121,7 @@ second_subs : (part : List ℕ) (names : List (List ℕ)) → map second (map (�
 second_subs part [] = refl
 second_subs part (name ∷ names) = ap (λ l. name ∷ l) (second_subs part names)
 
-seconds : (parts : List PartDef) → map second (flat_map named_in parts) ≡ part_names parts
+pub seconds : (parts : List PartDef) → map second (flat_map named_in parts) ≡ part_names parts
 seconds [] = refl
 seconds (part ∷ parts) =
     map-append second (named_in part) (flat_map named_in parts)

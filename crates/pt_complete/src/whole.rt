@@ -1,8 +1,9 @@
-ghost use Rattle.std.specs.Prelude.{◌≡◌, ◌≤◌, Some, Ok, Err, IfOk, IfErr, length};
+ghost use Rattle.std.specs.Prelude.{◌≡◌, ◌≤◌, Some, None, Ok, Err, IfOk, IfErr, length};
 ghost use Rattle.pt_ast.specs.StorableSpec.{IsStorableSpec};
 ghost use Rattle.pt_complete.specs.Fault.{IfRefused};
 ghost use Rattle.pt_complete.specs.Making.{ArePartsSound, IsBeside, bad_bounds_or_names};
 ghost use Rattle.pt_place.specs.Fitting.{kinds_of};
+ghost use Rattle.pt_place.specs.Valid.{refusal_of};
 ghost use Rattle.pt_written.specs.Complete.{bad_spec, complete_of, partitioned, refused_or};
 ghost use Rattle.pt_written.specs.WrittenParts.{by_of, part_count, parts_of, sub_count, sub_of};
 
@@ -23,6 +24,7 @@ use std::alloc::{AllocError, Global};
 pub fn complete(alloc: Global, table: &Ident, spec: &TableSpec) -> Result<TableDef, DefFault>
     requires { IsStorableSpec spec.now }
     ensures made { IfOk result (λ def. complete_of table.now spec.now ≡ Ok def) }
+    ensures valid { IfOk result (λ def. refusal_of table.now def ≡ None) }
     ensures refused { IfErr result (λ fault. IfRefused fault (λ refusal. complete_of table.now spec.now ≡ Err refusal)) }
 {
     match completed(alloc, table, spec) {
