@@ -1,5 +1,5 @@
 -- What a text means is valid: each check of a complete definition follows from those of the text.
-use Rattle.std.proofs.Common.{◌≡◌, ℕ, Bool, true, false, not, ◌&&◌, ◌*◌, List, [], ◌∷◌, ◌++◌, Option, Some, None, Result, Ok, refl, sym, ap, subst, ◌∙◌}
+use Rattle.std.proofs.Common.{◌≡◌, ℕ, Bool, true, false, not, ◌&&◌, ◌*◌, List, [], ◌∷◌, ◌++◌, Option, Some, None, Ok, refl, sym, ap, subst, ◌∙◌}
 use Rattle.std.specs.Prelude.{IfSome, is_none}
 use Rattle.std.specs.List.{list_all, range_with_len}
 use Rattle.std.specs.Option.{option_or}
@@ -66,9 +66,14 @@ six_none a b c d e f none =
     let from_c = none_next b (first_of (c ∷ d ∷ e ∷ f ∷ [])) from_b in
     let from_d = none_next c (first_of (d ∷ e ∷ f ∷ [])) from_c in
     let from_e = none_next d (first_of (e ∷ f ∷ [])) from_d in
-    let from_f = none_next e (first_of (f ∷ [])) from_e in
-    (none_first a (first_of (b ∷ c ∷ d ∷ e ∷ f ∷ [])) none, none_first b (first_of (c ∷ d ∷ e ∷ f ∷ [])) from_b, none_first c (first_of (d ∷ e ∷ f ∷ [])) from_c,
-    none_first d (first_of (e ∷ f ∷ [])) from_d, none_first e (first_of (f ∷ [])) from_e, none_first f None from_f)
+    let from_f = none_next e (first_of (f ∷ [])) from_e in (
+      none_first a (first_of (b ∷ c ∷ d ∷ e ∷ f ∷ [])) none,
+      none_first b (first_of (c ∷ d ∷ e ∷ f ∷ [])) from_b,
+      none_first c (first_of (d ∷ e ∷ f ∷ [])) from_c,
+      none_first d (first_of (e ∷ f ∷ [])) from_d,
+      none_first e (first_of (f ∷ [])) from_e,
+      none_first f None from_f,
+    )
 
 or_chain : (a b c d e f g : Option Refusal) → first_of (a ∷ b ∷ c ∷ d ∷ e ∷ f ∷ g ∷ []) ≡ None → option_or (first_of (a ∷ b ∷ c ∷ d ∷ e ∷ f ∷ [])) g ≡ None
 or_chain (Some r) b c d e f g none = none
@@ -145,7 +150,7 @@ module _ (table : List ℕ) (columns : List Column) (keys : List KeyDef) (column
       let parts = parts_of (kinds_of columns kind) kind spec in
       let kinds = first_of (sub_of_number table kind sub ∷ key_of_none kind ∷ key_of_none sub ∷ bad_main table columns spec.main ∷ bad_sub table columns spec.sub ∷ lacking_key columns keys kind sub ∷ []) in
       let whole : option_or kinds (bad_parts table columns kind spec) ≡ None =
-          or_chain (sub_of_number table kind sub) (key_of_none kind) (key_of_none sub) (bad_main table columns spec.main) (bad_sub table columns spec.sub) (lacking_key columns keys kind sub) (bad_parts table columns kind spec) none in
+      or_chain (sub_of_number table kind sub) (key_of_none kind) (key_of_none sub) (bad_main table columns spec.main) (bad_sub table columns spec.sub) (lacking_key columns keys kind sub) (bad_parts table columns kind spec) none in
       none_three items
       (first_of (sub_of_number table kind sub ∷ key_of_none kind ∷ key_of_none sub ∷ bad_by table columns kind ∷ bad_by table columns sub ∷ lacking_key columns keys kind sub ∷ []))
       (first_of (

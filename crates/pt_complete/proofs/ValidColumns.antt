@@ -4,7 +4,7 @@ use Rattle.std.specs.Prelude.{slice_index_or}
 use Rattle.std.specs.List.{filter_map, list_any, position_or_len}
 use Rattle.std.specs.Option.{option_map_or}
 use Rattle.std.specs.Str.{str_eq_ignore_ascii_case}
-use Rattle.std.proofs.lemmas.Bool.{and_left, eqb-true, false_from_ne_true, or_from, or_left, or_parts, or_right, true≢false}
+use Rattle.std.proofs.lemmas.Bool.{eqb-true, false_from_ne_true, or_from, or_left, or_parts, or_right, true≢false}
 use Rattle.std.proofs.lemmas.List.{append-nil, append_assoc, get_or_at, length-map, map-append}
 use Rattle.std.proofs.lemmas.List.Elements.{filter_map-append}
 use Rattle.pt_value.specs.declared.value.Kind.{Kind}
@@ -28,9 +28,9 @@ use Rattle.pt_place.specs.Names.{is_among, names_of}
 use Rattle.pt_place.specs.Valid.{bad_column}
 use Rattle.pt_place.proofs.Firsts.{none_first, none_next, passes}
 use Rattle.pt_written.specs.Complete.{bad_item, bad_written_key, no_column}
-use Rattle.pt_written.specs.Written.{KeyText, but_null, column_in, columns_of, default_in, is_not_null, is_not_null_at, is_primary_option, key_of, key_option, keys_in, keys_written, kind_of, own_key, places_of, primary_names, primary_names_in, says_not_null}
+use Rattle.pt_written.specs.Written.{KeyText, but_null, column_in, columns_of, default_in, is_not_null, is_not_null_at, is_primary_option, key_of, key_option, keys_written, kind_of, places_of, primary_names, primary_names_in, says_not_null}
 use Rattle.pt_complete.proofs.Columns.{names_same}
-use Rattle.pt_complete.proofs.ValidNames.{Each, alike_lower, both_none, each_append, each_left, each_right, lower, lower_alike, not_refused, place_within, read_at}
+use Rattle.pt_complete.proofs.ValidNames.{Each, alike_lower, both_none, each_append, each_right, lower_alike, not_refused, place_within, read_at}
 use Rattle.pt_complete.specs.Making.{column_as}
 
 -- ---- defaults: NULL is no default
@@ -111,9 +111,10 @@ full_named primary name (column ∷ columns) so is within = by_test (is_named na
 
 full_list : (primary : List (List ℕ)) (columns : List Column) (names : List (List ℕ)) → AreMarked primary columns → AreIn names primary → first_in (no_column columns) names ≡ None → AreFull columns names
 full_list primary columns [] so is none = tt
-full_list primary columns (name ∷ names) so is none =
-    (full_named primary name columns so (λ a e. is a (or_left (str_eq_ignore_ascii_case a name) (is_among a names) e)) (place_within columns name (none_first _ _ none)),
-    full_list primary columns names so (λ a e. is a (or_right (str_eq_ignore_ascii_case a name) (is_among a names) e)) (none_next _ _ none))
+full_list primary columns (name ∷ names) so is none = (
+  full_named primary name columns so (λ a e. is a (or_left (str_eq_ignore_ascii_case a name) (is_among a names) e)) (place_within columns name (none_first _ _ none)),
+  full_list primary columns names so (λ a e. is a (or_right (str_eq_ignore_ascii_case a name) (is_among a names) e)) (none_next _ _ none),
+)
 
 -- a column behind others of other names is the first of its name
 turned : (a b : List ℕ) → str_eq_ignore_ascii_case a b ≡ false → str_eq_ignore_ascii_case b a ≡ false
@@ -170,10 +171,11 @@ module _ (primary : List (List ℕ)) (columns : List Column) where
       (own_texts columns name options (λ own. own_full primary name written options columns (filter_map (column_in primary) before) (filter_map (column_in primary) items) is (no_other before name (none_first _ _ (none_first _ _ none))) own))
       (full_texts (before ++ text.Column name written options ∷ []) items (taken before (text.Column name written options) items is) (none_next _ _ none) within so
       (each_right (IsListed columns) (filter_map (key_option name) options) (keys_written items) listed))
-  full_texts before (text.Key r name names ∷ items) is none within so listed =
-      (key_text_full primary columns r name names so (in_left (primary_names_in (text.Key r name names)) (primary_names items) primary within) listed.0.0,
-      full_texts (before ++ text.Key r name names ∷ []) items (taken before (text.Key r name names) items is) (none_next (bad_item primary before (text.Key r name names)) _ none)
-      (in_right (primary_names_in (text.Key r name names)) (primary_names items) primary within) so listed.1)
+  full_texts before (text.Key r name names ∷ items) is none within so listed = (
+    key_text_full primary columns r name names so (in_left (primary_names_in (text.Key r name names)) (primary_names items) primary within) listed.0.0,
+    full_texts (before ++ text.Key r name names ∷ []) items (taken before (text.Key r name names) items is) (none_next (bad_item primary before (text.Key r name names)) _ none)
+        (in_right (primary_names_in (text.Key r name names)) (primary_names items) primary within) so listed.1,
+  )
 
   -- ---- no column of a primary key may be NULL
 

@@ -1,32 +1,30 @@
 -- Numbers and names of the partitions that a text makes.
-use Rattle.std.proofs.Common.{◌≡◌, ℕ, zero, suc, ◌+◌, ◌*◌, ◌<◌, ◌≤◌, ◌^◌, Bool, true, false, cond, not, ◌&&◌, ◌||◌, ◌==◌, List, [], ◌∷◌, ◌++◌, map, length, Option, Some, None, refl, sym, ap, subst, ◌∙◌, arith, All}
+use Rattle.std.proofs.Common.{◌≡◌, ℕ, zero, suc, ◌*◌, ◌<◌, ◌≤◌, Bool, true, false, not, ◌&&◌, ◌==◌, List, [], ◌∷◌, ◌++◌, map, length, Option, Some, None, refl, sym, ap, subst, ◌∙◌, arith, All}
 use Rattle.std.specs.Prelude.{IfSome, is_none, nat_lt, if◌then◌else◌, codes, decimal, unsigned_abs}
 use Rattle.std.specs.List.{flat_map, range_with_len}
-use Rattle.std.specs.Option.{option_map_or, option_or}
-use Rattle.std.proofs.lemmas.Bool.{eqb-true, eq-eqb, ne_eqb, ltb-false, le-ltb, or_parts, or_from, true≢false}
+use Rattle.std.specs.Option.{option_map_or}
+use Rattle.std.proofs.lemmas.Bool.{eqb-true, eq-eqb, ne_eqb, or_parts, or_from, true≢false}
 use Rattle.std.proofs.lemmas.List.{length-map, map-append}
 use Rattle.std.proofs.lemmas.List.FromFn.{length-range_with_len}
 use Rattle.std.proofs.lemmas.List.Elements.{All-head, All-tail}
 use Rattle.pt_value.specs.declared.value.Kind.{Kind}
 use Rattle.pt_ast.specs.declared.table.Column.{Column}
 use Rattle.pt_ast.specs.declared.table.PartBy.{PartBy}
-use Rattle.pt_ast.specs.declared.table.PartBy.TheVariants as by
 use Rattle.pt_ast.specs.declared.table.PartDef.{PartDef}
 use Rattle.pt_ast.specs.declared.written.HashSpec.{HashSpec}
 use Rattle.pt_ast.specs.declared.written.HashSpec.TheVariants as hash
 use Rattle.pt_ast.specs.declared.written.PartItem.{PartItem}
 use Rattle.pt_ast.specs.declared.written.PartSpec.{PartSpec}
 use Rattle.pt_ast.specs.declared.written.SubSpec.{SubSpec}
-use Rattle.pt_ast.specs.declared.refusal.Refusal.{Refusal}
 use Rattle.pt_ast.specs.declared.refusal.Refusal.TheVariants as refusal
 use Rattle.pt_ast.specs.Storable.{HasAtLeast}
 use Rattle.pt_ast.specs.StorableSpec.{AreStorableParts, IsStorablePart}
 use Rattle.pt_place.specs.Checks.{is_whole, name_twice, part_names, told, too_many}
-use Rattle.pt_place.specs.First.{first_in, in_turn, in_turn_from, refused_if}
+use Rattle.pt_place.specs.First.{first_in, in_turn, in_turn_from}
 use Rattle.pt_place.specs.Valid.{first_subs, is_without_parts, leaf_count, other_subs}
 use Rattle.pt_place.proofs.Firsts.{none_first, none_next, passes}
 use Rattle.pt_written.specs.Complete.{Named, bad_name, bad_names, defined, is_other_subs, is_without_written, named_in, other_written_subs}
-use Rattle.pt_written.specs.WrittenParts.{by_hash, part_count, part_in, part_made, parts_of, sub_count, sub_of, subs_defined, subs_named}
+use Rattle.pt_written.specs.WrittenParts.{by_hash, part_count, part_in, part_made, parts_of, sub_count, sub_of, subs_named}
 use Rattle.pt_complete.proofs.Naming.{second, seconds}
 use Rattle.pt_complete.proofs.ValidNames.{both_none, not_refused}
 
@@ -67,9 +65,10 @@ module _ (kinds : List Kind) (kind : PartBy) (spec : PartSpec) where
   written_have : (items : List PartItem) → All IsStorablePart items → first_in (other_written_subs spec) items ≡ None
       → AllHave (each_has spec.sub (sub_count spec)) (map (part_in kinds kind spec.sub (sub_count spec)) items)
   written_have [] so none = tt
-  written_have (item ∷ items) so none =
-      (named_each spec.sub _ (sub_count spec) item.name item.subs (All-head IsStorablePart item items so).subs (passes _ _ (none_first _ _ none)),
-      written_have items (All-tail IsStorablePart item items so) (none_next _ _ none))
+  written_have (item ∷ items) so none = (
+    named_each spec.sub _ (sub_count spec) item.name item.subs (All-head IsStorablePart item items so).subs (passes _ _ (none_first _ _ none)),
+    written_have items (All-tail IsStorablePart item items so) (none_next _ _ none),
+  )
 
   made_have : (ns : List ℕ) → AllHave (each_has spec.sub (sub_count spec)) (map (part_made spec.sub (sub_count spec)) ns)
   made_have [] = tt

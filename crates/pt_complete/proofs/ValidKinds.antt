@@ -1,7 +1,6 @@
 -- What a text is partitioned by passes as that of a definition: an expression whose columns are named as the table does is the same.
-use Rattle.std.proofs.Common.{◌≡◌, ℕ, Bool, false, List, [], ◌∷◌, ◌++◌, map, Option, Some, None, Result, Ok, Err, refl, sym, ap, ap₂, subst, ◌∙◌}
+use Rattle.std.proofs.Common.{◌≡◌, ℕ, Bool, false, List, [], ◌∷◌, ◌++◌, map, Option, Some, None, refl, sym, ap, ap₂, subst, ◌∙◌}
 use Rattle.std.specs.List.{flat_map}
-use Rattle.std.specs.Option.{option_map_or}
 use Rattle.std.proofs.lemmas.List.{map-append}
 use Rattle.pt_ast.specs.declared.tree.Expr.{Expr, map-Expr}
 use Rattle.pt_ast.specs.declared.tree.Expr.TheOpen.{Expr-F}

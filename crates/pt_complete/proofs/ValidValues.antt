@@ -19,7 +19,6 @@ use Rattle.pt_ast.specs.declared.tree.Expr.TheViews.{out-Expr, roll-Expr}
 use Rattle.pt_ast.specs.declared.tree.Expr.TheFolds.{fold-roll-Expr, ind-Expr}
 use Rattle.pt_ast.specs.declared.written.BoundSpec.{BoundSpec}
 use Rattle.pt_ast.specs.declared.written.BoundSpec.TheVariants as written
-use Rattle.pt_ast.specs.declared.written.Entry.{Entry}
 use Rattle.pt_ast.specs.declared.written.HashSpec.{HashSpec}
 use Rattle.pt_ast.specs.declared.written.HashSpec.TheVariants as hash
 use Rattle.pt_ast.specs.declared.written.MainSpec.{MainSpec}
@@ -33,9 +32,7 @@ use Rattle.pt_ast.specs.declared.table.KeyDef.{KeyDef}
 use Rattle.pt_ast.specs.declared.table.PartBy.{PartBy}
 use Rattle.pt_ast.specs.declared.table.PartBy.TheVariants as by
 use Rattle.pt_ast.specs.declared.refusal.Arg.TheVariants as arg
-use Rattle.pt_ast.specs.declared.refusal.Refusal.{Refusal}
 use Rattle.pt_ast.specs.declared.refusal.Refusal.TheVariants as refusal
-use Rattle.pt_ast.specs.Storable.{HasAtLeast}
 use Rattle.pt_ast.specs.StorableSpec.{AreStorableParts, IsStorablePart, IsStorableValues}
 use Rattle.pt_expr.specs.declared.kind.ExprKind.{ExprKind}
 use Rattle.pt_expr.specs.declared.kind.ExprKind.TheVariants as expr
@@ -49,7 +46,7 @@ use Rattle.pt_expr.proofs.KindsHold.{kind_holds}
 use Rattle.pt_expr.proofs.Magnitudes.{wide_within}
 use Rattle.pt_expr.proofs.Nodes.{call_agrees, date_agrees, negation_agrees, number_agrees, text_agrees}
 use Rattle.pt_place.specs.Checks.{is_null, is_range}
-use Rattle.pt_place.specs.First.{first_in, refused_if}
+use Rattle.pt_place.specs.First.{first_in}
 use Rattle.pt_place.specs.Fitting.{is_in_range, is_of_kind}
 use Rattle.pt_place.specs.Valid.{bad_values, has_bound, is_bound_out, is_tuple_count, is_wrong_bound, is_wrong_tuple}
 use Rattle.pt_place.proofs.Firsts.{none_first, none_next, passes}

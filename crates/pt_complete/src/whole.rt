@@ -20,7 +20,7 @@ use pt_written::{
 use std::alloc::{AllocError, Global};
 
 /// The complete definition of a table of this name and text: all names, numbers and constants are worked out. `Refused` has the
-/// first check that the text fails, in the order of CREATE TABLE.
+/// first check that the text fails, in the order of CREATE TABLE. A definition that is given is valid: no check refuses it.
 pub fn complete(alloc: Global, table: &Ident, spec: &TableSpec) -> Result<TableDef, DefFault>
     requires { IsStorableSpec spec.now }
     ensures made { IfOk result (λ def. complete_of table.now spec.now ≡ Ok def) }
