@@ -5,3 +5,9 @@ pub mod Keys
 pub mod Spelled
 pub mod Kept
 pub mod Sound
+pub mod Layers
+pub mod StorableColumns
+pub mod StorableKeys
+pub mod StorableExprs
+pub mod StorableBounds
+pub mod Storable
