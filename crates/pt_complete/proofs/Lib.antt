@@ -12,3 +12,9 @@ pub mod ValidKeys
 pub mod ValidKinds
 pub mod ValidValues
 pub mod Valid
+pub mod Layers
+pub mod StorableColumns
+pub mod StorableKeys
+pub mod StorableExprs
+pub mod StorableBounds
+pub mod Storable

@@ -114,7 +114,7 @@ no_bounds own columns keys (main.Hash (hash.Hash linear expr)) is needs parts = 
 no_bounds own columns keys (main.Hash (hash.Key linear [])) is needs parts = ap (λ o. bad_bounds o parts) (sym is)
 no_bounds own columns keys (main.Hash (hash.Key linear (name ∷ names))) is needs parts = ap (λ o. bad_bounds o parts) (sym is)
 
-and_true : (b : Bool) → (b && true) ≡ false → b ≡ false
+pub and_true : (b : Bool) → (b && true) ≡ false → b ≡ false
 and_true true e = e
 and_true false e = refl
 
@@ -138,19 +138,19 @@ first_chain (check ∷ checks) rest = or_assoc check (first_of checks) rest ∙ 
 
 -- ---- counts
 
-least : (p s : ℕ) → 0 < s → p ≤ p * s
+pub least : (p s : ℕ) → 0 < s → p ≤ p * s
 least zero s some = omega arith
 least (suc p) s some = omega (arith, some, least p s some)
 
-least_right : (p s : ℕ) → 0 < p → s ≤ p * s
+pub least_right : (p s : ℕ) → 0 < p → s ≤ p * s
 least_right zero s some = omega (arith, some)
 least_right (suc p) s some = omega arith
 
-not_zero : (n : ℕ) → (n == 0) ≡ false → 0 < n
+pub not_zero : (n : ℕ) → (n == 0) ≡ false → 0 < n
 not_zero zero e = cc
 not_zero (suc n) e = omega arith
 
-few_told : (n : ℕ) → nat_lt 8192 (told n) ≡ false → n ≤ 8192
+pub few_told : (n : ℕ) → nat_lt 8192 (told n) ≡ false → n ≤ 8192
 few_told n e = grind (arith, e)
 
 -- ---- a partitioning

@@ -59,7 +59,7 @@ sound_items less (k ∷ kinds) (item ∷ items) wrong wide out =
 sound_items less (k ∷ kinds) [] wrong wide out = tt
 sound_items less [] items wrong wide out = tt
 
-sound_tuples : (less : Bool) (kinds : List Kind) (tuples : List (List BoundSpec))
+pub sound_tuples : (less : Bool) (kinds : List Kind) (tuples : List (List BoundSpec))
     → list_any (is_wrong_written less kinds) tuples ≡ false → list_any (has_item is_wide_item kinds) tuples ≡ false → list_any (has_item is_out_item kinds) tuples ≡ false
     → All (AreConstants kinds) tuples
 sound_tuples less kinds [] wrong wide out = All-nil (AreConstants kinds)

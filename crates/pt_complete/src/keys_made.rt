@@ -1,5 +1,6 @@
 ghost use Rattle.std.specs.Prelude.{◌≡◌, ◌≤◌, ◌<◌, ◌∷◌, ◌++◌, All, [], IfOk, length, map};
 ghost use Rattle.std.specs.List.{filter_map};
+ghost use Rattle.pt_ast.specs.Storable.{IsCounted};
 ghost use Rattle.pt_ast.specs.StorableSpec.{IsStorableItem};
 ghost use Rattle.pt_complete.specs.Making.{key_text};
 ghost use Rattle.pt_written.specs.Written.{key_name, key_of, key_option, keys_in, keys_of, own_key};
@@ -11,7 +12,10 @@ use pt_value::Ident;
 use pt_written::{own_name, places_of};
 use std::alloc::{AllocError, Global};
 
-/// The keys, in the order of the text.
+/// No memory has room for so many keys.
+const KEYS_END: usize = 1 << 32;
+
+/// The keys, in the order of the text: fewer than 2^32.
 pub(crate) fn keys_of(
     alloc: Global,
     columns: &Columns,
@@ -19,11 +23,15 @@ pub(crate) fn keys_of(
 ) -> Result<KeyDefs, AllocError>
     requires columns { length columns.now ≤ 1_000_000 }
     requires items { All IsStorableItem items.now }
-    ensures { IfOk result (λ keys. keys ≡ keys_of columns.now items.now) }
+    ensures keys { IfOk result (λ keys. keys ≡ keys_of columns.now items.now) }
+    ensures few { IfOk result IsCounted }
 {
     let mut keys = KeyDefs::new(alloc);
     for item in items {
         put_keys(alloc, columns, item, &mut keys)?;
+    }
+    if keys.items().len() >= KEYS_END {
+        return Err(AllocError);
     }
     Ok(keys)
 }

@@ -1,4 +1,6 @@
 ghost use Rattle.std.specs.Prelude.{◌≡◌, ◌≤◌, Some, None, Ok, Err, IfOk, IfErr, length};
+ghost use Rattle.pt_ast.specs.Storable.{IsCounted};
+ghost use Rattle.pt_ast.specs.StorableDef.{IsStorableDef};
 ghost use Rattle.pt_ast.specs.StorableSpec.{IsStorableSpec};
 ghost use Rattle.pt_complete.specs.Fault.{IfRefused};
 ghost use Rattle.pt_complete.specs.Making.{ArePartsSound, IsBeside, bad_bounds_or_names};
@@ -20,10 +22,12 @@ use pt_written::{
 use std::alloc::{AllocError, Global};
 
 /// The complete definition of a table of this name and text: all names, numbers and constants are worked out. `Refused` has the
-/// first check that the text fails, in the order of CREATE TABLE. A definition that is given is valid: no check refuses it.
+/// first check that the text fails, in the order of CREATE TABLE. A definition that is given is storable and valid: no check refuses
+/// it. Memory is wanting from 2^32 keys on.
 pub fn complete(alloc: Global, table: &Ident, spec: &TableSpec) -> Result<TableDef, DefFault>
     requires { IsStorableSpec spec.now }
     ensures made { IfOk result (λ def. complete_of table.now spec.now ≡ Ok def) }
+    ensures storable { IfOk result (λ def. IsStorableDef def) }
     ensures valid { IfOk result (λ def. refusal_of table.now def ≡ None) }
     ensures refused { IfErr result (λ fault. IfRefused fault (λ refusal. complete_of table.now spec.now ≡ Err refusal)) }
 {
@@ -41,7 +45,8 @@ fn completed(
     spec: &TableSpec,
 ) -> Result<Result<TableDef, Refusal>, AllocError>
     requires { IsStorableSpec spec.now }
-    ensures { IfOk result (λ made. made ≡ complete_of table.now spec.now) }
+    ensures made { IfOk result (λ made. made ≡ complete_of table.now spec.now) }
+    ensures few { IfOk result (λ made. IfOk made (λ def. IsCounted def.keys)) }
 {
     let items = spec.items.items();
     let columns = match columns_of(alloc, items)? {
