@@ -1,0 +1,25 @@
+-- What calls and statements leave of the database that a session stands for.
+use Rattle.std.specs.Prelude.{◌≡◌, ◌⊎◌, Result, IfOk, OnOk}
+use Rattle.pt_host.specs.Listed.{FileList, by_name}
+use Rattle.pt_ast.specs.declared.database.Db.{Db}
+use Rattle.pt_ast.specs.declared.reply.Reply.{Reply}
+use Rattle.pt_store.specs.declared.stop.Stop.{Stop}
+use Rattle.pt_store.specs.Stops.{ByStop, IfBad}
+use Rattle.pt_db.specs.Outcome.{Outcome, db_behind, reply_of}
+use Rattle.pt_holds.specs.Holds.{Holds}
+use Rattle.pt_session.specs.declared.session.Session.{Session}
+use Rattle.pt_session.specs.Session.{HasDefs}
+
+-- What a call leaves whose success makes a later database of this one: the other map that an image may stand for is the old one,
+-- or holds the later database; after Ok it does; and unless the disk failed the session has the definitions of one of the two.
+pub record Leaves {T : Type 0} (after : Session) (map next : FileList) (db later : Db) (result : Result T Stop) : Type 0 where
+  pub between : (next ≡ map) ⊎ Holds (by_name next) later
+  pub holds : OnOk result (Holds (by_name next) later)
+  pub defs : ByStop result (HasDefs after later) (HasDefs after db) (Unit {0})
+
+-- What the execution of a statement leaves and answers, where the session stands for this database and the statement's meaning is
+-- this outcome.
+pub record Executes (after : Session) (map next : FileList) (db : Db) (outcome : Outcome) (result : Result Reply Stop) : Type 0 where
+  pub leaves : Leaves after map next db (db_behind db outcome) result
+  pub reply : IfOk result (λ reply. reply ≡ reply_of outcome)
+  pub not_bad : IfBad result (λ name place. ⊥)

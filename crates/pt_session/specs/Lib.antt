@@ -1,0 +1,4 @@
+pub mod Hashed
+pub mod Session
+pub mod Leaves
+pub mod Writing
