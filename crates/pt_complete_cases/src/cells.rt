@@ -1,5 +1,8 @@
+ghost use Rattle.std.specs.Prelude.{◌↔◌, IsTrue};
+ghost use Rattle.pt_expr.specs.Columns.{AreFitting};
+
 use crate::answers::bytes_of;
-use pt_ast::Cells;
+use pt_ast::{Cells, Columns};
 use pt_value::{Bin, Value};
 use std::alloc::{AllocError, Global};
 
@@ -26,4 +29,19 @@ fn number_value(text: &str) -> Option<Value> {
     }
     let day = text.strip_prefix("d")?;
     Some(Value::Day(day.parse::<i32>().ok()?))
+}
+
+/// Whether there is a cell for each column that fits its kind.
+pub(crate) fn are_fitting(columns: &Columns, cells: &Cells) -> bool
+    ensures { IsTrue result ↔ AreFitting columns.now cells.now }
+{
+    if columns.items().len() != cells.items().len() {
+        return false;
+    }
+    for (at, column) in columns.items().iter().enumerate() {
+        if !cells.items()[at].fits(column.kind) {
+            return false;
+        }
+    }
+    true
 }

@@ -7,17 +7,17 @@
 //! | `place CELL,.. T` | the name of the partition or subpartition where a row belongs, `-` in an unpartitioned table, or `none` |
 //!
 //! T is a piece, in which `%` and two hexadecimal digits are a byte. In the text of `long` what stands in brackets is repeated N times with
-//! commas between, and `@` in it is the number of the copy, from 0. A cell is `N` for NULL, `i-7`, a day `d10957`, or bytes `xTEXT`.
+//! commas between, and `@` in it is the number of the copy, from 0. A definition that is shown is written as a file and read back as well:
+//! where another one is read, it is shown behind the first. A cell is `N` for NULL, `i-7`, a day `d10957`, or bytes `xTEXT`.
 //!
 //! A line without a word, or with a `#` at its front, is printed as it stands. What is no CREATE TABLE, and a row that doesn't fit its
 //! columns, is answered by `?`.
 //!
-//! It stands on `pt_complete`, `pt_parse_ddl`, `pt_place` and `pt_show`.
+//! It stands on `pt_complete`, `pt_parse_ddl`, `pt_place`, `pt_defs` and `pt_show`.
 #![tactic(auto)]
 
 mod answers;
 mod cells;
-mod fitting;
 mod made;
 mod told;
 

@@ -1,6 +1,11 @@
-use crate::fitting::{are_fitting, are_placed};
-use pt_ast::{Cells, Spot, TableDef};
-use pt_place::{leaf, place, valid};
+ghost use Rattle.pt_ast.specs.StorableDef.{IsStorableDef};
+ghost use Rattle.pt_place.specs.Valid.{IsValid};
+
+use crate::cells::are_fitting;
+use crate::made::beside;
+use pt_ast::{Cells, TableDef};
+use pt_defs::{DefRead, def_bytes, def_of_bytes};
+use pt_place::{leaf, place};
 use pt_show::show_create;
 use pt_value::Ident;
 use std::alloc::{AllocError, Global};
@@ -23,34 +28,27 @@ pub(crate) fn put_told(
     asked: Asked,
     table: &Ident,
     def: &TableDef,
-) -> Result<(), AllocError> {
+) -> Result<(), AllocError>
+    requires storable { IsStorableDef def.now }
+    requires valid { IsValid def.now }
+{
     match asked {
-        Asked::Text => put_plain(out, show_create(alloc, table, def)?.items()),
-        Asked::Size => put_size(out, show_create(alloc, table, def)?.items()),
-        Asked::Place(cells) => put_leaf(out, def, spot_of(table, def, cells)),
+        Asked::Place(cells) => put_leaf(out, def, cells),
+        Asked::Text => put_text(alloc, out, true, table, def),
+        Asked::Size => put_text(alloc, out, false, table, def),
     }
 }
 
-/// Where a row is, if the definition is valid and the cells fit.
-fn spot_of(table: &Ident, def: &TableDef, cells: &Cells) -> Option<Option<Spot>> {
-    if !are_placed(def) || !are_fitting(&def.columns, cells) {
-        return None;
+/// Writes where a row belongs.
+fn put_leaf(out: &mut String, def: &TableDef, cells: &Cells) -> Result<(), AllocError>
+    requires { IsValid def.now }
+{
+    if !are_fitting(&def.columns, cells) {
+        return out.push('?');
     }
-    match valid(table, def) {
-        Some(_) => None,
-        None => Some(place(def, cells)),
-    }
-}
-
-fn put_leaf(
-    out: &mut String,
-    def: &TableDef,
-    spot: Option<Option<Spot>>,
-) -> Result<(), AllocError> {
-    match spot {
-        Some(Some(spot)) => put_name(out, leaf(def, spot)),
-        Some(None) => out.push_str("none"),
-        None => out.push('?'),
+    match place(def, cells) {
+        Some(spot) => put_name(out, leaf(def, spot)),
+        None => out.push_str("none"),
     }
 }
 
@@ -61,10 +59,53 @@ fn put_name(out: &mut String, name: Option<Ident>) -> Result<(), AllocError> {
     }
 }
 
+/// Writes the text of a definition, whole or its size; and that of the one that its bytes give, where it is another.
+fn put_text(
+    alloc: Global,
+    out: &mut String,
+    whole: bool,
+    table: &Ident,
+    def: &TableDef,
+) -> Result<(), AllocError>
+    requires { IsStorableDef def.now }
+{
+    let text = show_create(alloc, table, def)?;
+    if whole {
+        put_plain(out, text.items())?;
+    } else {
+        put_size(out, text.items())?;
+    }
+    let bytes = def_bytes(alloc, def)?;
+    match def_of_bytes(alloc, &bytes) {
+        Ok(again) => {
+            let told = put_other(alloc, out, table, &again, text.items());
+            beside(again, told)
+        }
+        Err(DefRead::Bad { place }) => write!(out, " bad {place}"),
+        Err(DefRead::NoMemory) => out.push_str(" no memory"),
+    }
+}
+
 fn put_size(out: &mut String, text: &[u8]) -> Result<(), AllocError> {
     let lines = text.iter().filter(|b| **b == b'\n').count();
     let bytes = text.len();
     write!(out, "{lines} {bytes}")
+}
+
+/// Writes the text of a definition where it isn't this.
+fn put_other(
+    alloc: Global,
+    out: &mut String,
+    table: &Ident,
+    def: &TableDef,
+    text: &[u8],
+) -> Result<(), AllocError> {
+    let other = show_create(alloc, table, def)?;
+    if other.items() == text {
+        return Ok(());
+    }
+    out.push(' ')?;
+    put_plain(out, other.items())
 }
 
 /// Writes bytes that stand for themselves, `|` for a line's end.

@@ -8,4 +8,3 @@ pub mod Growth
 pub mod Filled
 pub mod Select
 pub mod Step
-pub mod Law

@@ -7,7 +7,6 @@ ghost use Rattle.pt_db.specs.Outcome.{db_behind, reply_of};
 ghost use Rattle.pt_db.specs.Sound.{IsSound};
 ghost use Rattle.pt_ast.specs.StorableSpec.{IsStorableSpec};
 ghost use Rattle.pt_step.specs.Create.{create};
-ghost use Rattle.pt_step.specs.Law.{DefinesWell};
 ghost use Rattle.pt_step.specs.DropTable.{drop_table};
 ghost use Rattle.pt_step.specs.Fresh.{nothing_or, with_fresh};
 ghost use Rattle.pt_step.specs.Like.{like};
@@ -32,7 +31,7 @@ pub(crate) fn create(
     ensures reply { IfOk result (λ reply. reply ≡ reply_of (create if_not db.old name.now spec.now)) }
     ensures after { OnOk result (db.new ≡ db_behind db.old (create if_not db.old name.now spec.now)) }
     ensures err { OnErr result (db.new ≡ db.old) }
-    ensures sound { DefinesWell → IsSound db.new }
+    ensures sound { IsSound db.new }
 {
     if is_there(db, name) {
         return nothing_or(alloc, if_not, Refusal::TableExists(*name));

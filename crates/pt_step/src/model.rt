@@ -1,7 +1,6 @@
 ghost use Rattle.std.specs.Prelude.{◌≡◌, true, IfOk, OnOk, OnErr};
 ghost use Rattle.pt_ast.specs.StorableStmt.{IsStorableStmt};
 ghost use Rattle.pt_db.specs.Sound.{IsSound};
-ghost use Rattle.pt_step.specs.Law.{RestsOn};
 ghost use Rattle.pt_step.specs.Step.{after, answer, is_covered};
 
 use crate::definitions::{create, drop_table, like};
@@ -20,7 +19,7 @@ pub fn step(alloc: Global, db: &mut Db, stmt: &Stmt) -> Result<Reply, AllocError
     ensures reply { IfOk result (λ reply. reply ≡ answer db.old stmt.now) }
     ensures after { OnOk result (db.new ≡ after db.old stmt.now) }
     ensures err { OnErr result (db.new ≡ db.old) }
-    ensures sound { RestsOn stmt.now → IsSound db.new }
+    ensures sound { IsSound db.new }
 {
     match stmt {
         Stmt::Create(if_not, table, spec) => create(alloc, db, *if_not, table, spec),

@@ -1,6 +1,6 @@
 use Rattle.std.proofs.Common.{ap, arith, length}
 use Rattle.pt_expr.proofs.Nodes.{fitting_length}
-use Rattle.pt_complete_cases.proofs.fitting.are_fitting.Goals as goal
+use Rattle.pt_complete_cases.proofs.cells.are_fitting.Goals as goal
 
 pub returns-then-items : goal.returns-then-items
 returns-then-items c = (
