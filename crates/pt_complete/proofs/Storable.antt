@@ -1,6 +1,6 @@
 -- What a text means that passes its checks is storable.
-use Rattle.std.proofs.Common.{◌≡◌, ℕ, suc, ◌+◌, ◌*◌, ◌<◌, ◌≤◌, ◌^◌, Bool, true, false, ◌&&◌, List, [], ◌∷◌, ◌++◌, map, length, Option, Some, None, Result, Ok, Err, refl, sym, ap, subst, ◌∙◌, arith, All}
-use Rattle.std.specs.Prelude.{IfSome, IfOk, is_none, count_by, codes}
+use Rattle.std.proofs.Common.{◌≡◌, ℕ, ◌*◌, ◌<◌, ◌≤◌, false, ◌&&◌, List, [], ◌∷◌, ◌++◌, map, length, Option, Some, None, Result, Ok, Err, refl, sym, ap, subst, ◌∙◌, arith, All}
+use Rattle.std.specs.Prelude.{IfSome, IfOk, is_none, codes}
 use Rattle.std.specs.declared.alloc.AllocError.{AllocError}
 use Rattle.std.specs.Fmt.{decimal}
 use Rattle.std.specs.List.{filter_map, range_with_len}
@@ -18,7 +18,6 @@ use Rattle.pt_ast.specs.declared.written.PartItem.{PartItem}
 use Rattle.pt_ast.specs.declared.written.PartSpec.{PartSpec}
 use Rattle.pt_ast.specs.declared.written.SubSpec.{SubSpec}
 use Rattle.pt_ast.specs.declared.written.TableSpec.{TableSpec}
-use Rattle.pt_ast.specs.declared.table.Bound.{Bound}
 use Rattle.pt_ast.specs.declared.table.Column.{Column}
 use Rattle.pt_ast.specs.declared.table.KeyDef.{KeyDef}
 use Rattle.pt_ast.specs.declared.table.PartBy.{PartBy}
@@ -28,14 +27,14 @@ use Rattle.pt_ast.specs.declared.table.TableDef.{TableDef}
 use Rattle.pt_ast.specs.declared.refusal.Refusal.{Refusal}
 use Rattle.pt_ast.specs.declared.refusal.Refusal.TheVariants as refusal
 use Rattle.pt_ast.specs.Storable.{HasAtLeast, IsCounted}
-use Rattle.pt_ast.specs.StorableSpec.{AreStorableParts, IsStorableHash, IsStorableItem, IsStorableMain, IsStorablePart, IsStorablePartSpec, IsStorableSpec, IsStorableSub, is_column}
+use Rattle.pt_ast.specs.StorableSpec.{AreStorableParts, IsStorableHash, IsStorableItem, IsStorableMain, IsStorablePart, IsStorablePartSpec, IsStorableSpec, IsStorableSub}
 use Rattle.pt_ast.specs.StorableDef.{ArePositions, AreBoundsOf, AreSubsOf, IsStorableBy, IsStorableColumn, IsStorableDef, IsStorableKey, IsStorablePartDef, IsSub, IsWholeAlone}
 use Rattle.pt_place.specs.Checks.{bad_bounds, is_whole, key_of_none, lacking_key, sub_of_number, too_many}
 use Rattle.pt_place.specs.First.{first_in, first_of, in_turn, in_turn_from, refused_if}
 use Rattle.pt_place.specs.Fitting.{kinds_of}
 use Rattle.pt_place.proofs.Firsts.{none_first, none_next, passes}
 use Rattle.pt_written.specs.Complete.{bad_hash, bad_item, bad_main, bad_names, bad_parts, bad_spec, bad_spec_if, bad_sub, bad_written_key, bad_written_values, complete_of, defined, definition_of, is_without_written, needs_parts, other_written_subs, partitioned, refused_or, written_refusal}
-use Rattle.pt_written.specs.Written.{column_in, columns_for_rows, columns_of, key_of, keys_of, keys_written, primary_names}
+use Rattle.pt_written.specs.Written.{column_in, columns_for_rows, columns_of, keys_of, keys_written, primary_names}
 use Rattle.pt_written.specs.WrittenParts.{by_hash, by_of, part_count, part_in, part_made, parts_of, sub_count, sub_names, sub_of, subs_named}
 use Rattle.pt_complete.proofs.Kept.{first_false, second_false}
 use Rattle.pt_complete.proofs.Naming.{made_ok, ok_then}

@@ -1,6 +1,6 @@
 -- Bounds and values of a text that passes its checks are short, and as many as they have to be.
-use Rattle.std.proofs.Common.{◌≡◌, ℕ, zero, suc, ◌+◌, ◌<◌, ◌≤◌, ◌^◌, ℤ, Bool, true, false, not, ◌&&◌, ◌||◌, ◌==◌, List, [], ◌∷◌, map, length, Option, Some, None, Result, Ok, Err, refl, sym, ap, subst, ◌∙◌, arith, All}
-use Rattle.std.specs.Prelude.{IfSome, fold, pos, neg_ℤ, slice_index_or, nat_lt}
+use Rattle.std.proofs.Common.{◌≡◌, ℕ, zero, suc, ℤ, Bool, true, false, ◌==◌, List, [], ◌∷◌, map, length, Option, Some, None, Result, Ok, Err, refl, sym, ap, subst, ◌∙◌, arith, All}
+use Rattle.std.specs.Prelude.{IfSome, fold, pos, slice_index_or}
 use Rattle.std.specs.List.{list_any}
 use Rattle.std.specs.Option.{option_map_or}
 use Rattle.std.proofs.lemmas.List.{length-map}
@@ -25,20 +25,19 @@ use Rattle.pt_ast.specs.declared.table.Bound.{Bound}
 use Rattle.pt_ast.specs.declared.table.Column.{Column}
 use Rattle.pt_ast.specs.declared.table.PartBy.{PartBy}
 use Rattle.pt_ast.specs.declared.table.PartBy.TheVariants as by
-use Rattle.pt_ast.specs.Storable.{HasAtLeast, IsCounted}
+use Rattle.pt_ast.specs.Storable.{HasAtLeast}
 use Rattle.pt_ast.specs.StorableExpr.{IsStorableExpr, IsStorableNode}
 use Rattle.pt_ast.specs.StorableSpec.{IsStorableBound, IsStorableEntry, IsStorableValues}
 use Rattle.pt_ast.specs.StorableDef.{AreBoundsOf, IsShortBound, IsShortValue, IsStorableTuple}
 use Rattle.pt_expr.specs.declared.kind.ExprKind.{ExprKind}
 use Rattle.pt_expr.specs.declared.kind.ExprKind.TheVariants as expr
 use Rattle.pt_expr.specs.declared.kind.CheckFault.{CheckFault}
-use Rattle.pt_expr.specs.Found.{Finding, after, finding, finding_step, kind_finding, kind_of, other, text_shape}
-use Rattle.pt_expr.specs.Values.{call, day_or_null, on_day, on_number, on_numbers, operation, part_of_day, as_day, plus, times, value, value_step, wanted}
+use Rattle.pt_expr.specs.Found.{Finding, after, finding, finding_step, kind_finding, other, text_shape}
+use Rattle.pt_expr.specs.Values.{call, day_or_null, on_day, on_number, on_numbers, as_day, plus, times, value, value_step, wanted}
 use Rattle.pt_place.specs.Checks.{is_range, is_too_long, is_whole}
-use Rattle.pt_place.specs.First.{first_in}
-use Rattle.pt_place.specs.Fitting.{is_in_range, kind_at, kinds_of}
+use Rattle.pt_place.specs.Fitting.{kind_at, kinds_of}
 use Rattle.pt_place.proofs.Firsts.{none_first, none_next, passes}
-use Rattle.pt_written.specs.Complete.{bad_tuples, bad_written_values, has_item, has_kind, is_out_item, is_wide_item, is_wrong_item, is_wrong_written, item_finding}
+use Rattle.pt_written.specs.Complete.{bad_tuples, has_kind, is_wrong_written, item_finding}
 use Rattle.pt_written.specs.WrittenParts.{bound_of, bounds_of, entry_items, is_date, list_tuples, no_tuples, range_tuples, tuple_of, tuples_in, worth}
 use Rattle.pt_complete.proofs.Kept.{first_false, not_false, second_false}
 use Rattle.pt_complete.proofs.Sound.{sound_tuples}

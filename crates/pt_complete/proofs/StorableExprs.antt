@@ -1,6 +1,5 @@
 -- An expression that may be partitioned by is kept as a storable one, with each column named as the table does.
-use Rattle.std.proofs.Common.{◌≡◌, ℕ, suc, ◌+◌, ◌≤◌, ◌^◌, ℤ, Bool, true, false, cond, not, ◌&&◌, ◌||◌, List, [], ◌∷◌, map, length, max, Option, Some, None, Result, Ok, Err, refl, sym, ap, ap₂, subst, ◌∙◌, arith, Any}
-use Rattle.std.specs.Prelude.{codes, sum_by}
+use Rattle.std.proofs.Common.{◌≡◌, ℕ, suc, ℤ, Bool, true, false, cond, ◌||◌, List, [], ◌∷◌, map, length, max, Option, Some, None, Result, Ok, Err, refl, sym, ap, ap₂, subst, ◌∙◌, arith, Any}
 use Rattle.std.specs.List.{AllByRecursion, list_all}
 use Rattle.std.specs.Option.{option_map_or}
 use Rattle.std.proofs.lemmas.Int.{ints}
@@ -8,29 +7,23 @@ use Rattle.std.proofs.lemmas.List.{length-map}
 use Rattle.pt_value.specs.Fits.{FitsDate, fits_date}
 use Rattle.pt_value.specs.Text.{day_of}
 use Rattle.pt_value.proofs.Spelled.{day_of-spells}
-use Rattle.pt_value.specs.declared.value.Kind.{Kind}
-use Rattle.pt_value.specs.declared.value.Kind.TheVariants as kind
 use Rattle.pt_ast.specs.declared.tree.Op.{Op}
 use Rattle.pt_ast.specs.declared.tree.Op.TheVariants as op
 use Rattle.pt_ast.specs.declared.tree.Func.{Func}
 use Rattle.pt_ast.specs.declared.tree.Func.TheVariants as func
-use Rattle.pt_ast.specs.declared.tree.Expr.{Expr, every-Expr, every_here-Expr, fold-roll-Expr, map-Expr, out-Expr, out-roll-Expr, roll-Expr}
+use Rattle.pt_ast.specs.declared.tree.Expr.{Expr, every-Expr, every_here-Expr, fold-roll-Expr, map-Expr, out-roll-Expr, roll-Expr}
 use Rattle.pt_ast.specs.declared.tree.Expr.TheOpen.{Expr-F}
 use Rattle.pt_ast.specs.declared.tree.Expr.TheVariants.{rolls-Column}
 use Rattle.pt_ast.specs.declared.table.Column.{Column}
-use Rattle.pt_ast.specs.declared.refusal.Refusal.{Refusal}
-use Rattle.pt_ast.specs.declared.refusal.Refusal.TheVariants as refusal
 use Rattle.pt_ast.specs.Storable.{HasAtLeast, greatest}
 use Rattle.pt_ast.specs.StorableExpr.{BeginsWithPlus, IsStorableExpr, IsStorableNode, depth, depth_step}
 use Rattle.pt_ast.specs.StorableDef.{IsFitDate, IsKeptExpr, IsKeptNode, IsShort}
 use Rattle.pt_expr.specs.declared.kind.CheckFault.{CheckFault}
-use Rattle.pt_expr.specs.declared.kind.CheckFault.TheVariants as fault
 use Rattle.pt_expr.specs.Columns.{column_named, is_named}
-use Rattle.pt_expr.specs.Found.{Finding, after, all_found, absolute, beside, call_finding, column_finding, column_found, date_finding, day_part, finding, finding_step, kind_finding, may_be_day, may_be_wide, narrow, negation, product_finding, product_bound, is_literal, sum_finding, takes, text_shape, other, wide}
+use Rattle.pt_expr.specs.Found.{Finding, after, all_found, absolute, beside, call_finding, column_finding, date_finding, day_part, finding, finding_step, kind_finding, may_be_day, may_be_wide, negation, product_finding, is_literal, sum_finding, takes, text_shape, other}
 use Rattle.pt_place.specs.Checks.{bad_expr, of_finding}
 use Rattle.pt_place.specs.Names.{names_in}
 use Rattle.pt_place.proofs.Looks.{both_left, both_right}
-use Rattle.pt_place.proofs.Firsts.{passes}
 use Rattle.pt_place.specs.Checks.{is_some_name}
 use Rattle.pt_written.specs.Written.{own_name}
 use Rattle.pt_written.specs.WrittenParts.{renamed, renaming}

@@ -1,5 +1,5 @@
 -- Lists of columns that are there have positions of columns, and keys of a text that passes its checks are storable.
-use Rattle.std.proofs.Common.{◌≡◌, ℕ, suc, ◌+◌, ◌<◌, ◌≤◌, ◌^◌, Bool, true, false, cond, List, [], ◌∷◌, ◌++◌, map, length, Option, Some, None, refl, sym, ap, ◌∙◌, arith, All}
+use Rattle.std.proofs.Common.{◌≡◌, ℕ, ◌<◌, Bool, true, false, cond, List, [], ◌∷◌, ◌++◌, map, length, Option, Some, None, refl, sym, ap, ◌∙◌, arith, All}
 use Rattle.std.specs.Prelude.{IfSome, is_none, nat_lt, find}
 use Rattle.std.specs.List.{filter_map, position_or_len}
 use Rattle.std.specs.Option.{option_map_or, option_or}
