@@ -1,0 +1,26 @@
+ghost use Rattle.std.specs.Prelude.{IfOk};
+ghost use Rattle.pt_ast.specs.StorableStmt.{IsStorableStmt};
+
+use pt_ast::Stmt;
+use pt_parse_expr::ParseFault;
+use pt_token::tokens;
+use std::alloc::Global;
+
+/// The most bytes of a piece.
+const MOST_BYTES: usize = 1_048_576;
+
+/// The statement that a piece spells: a definition, or else a statement on rows.
+pub(crate) fn read(alloc: Global, piece: &[u8]) -> Result<Stmt, ParseFault>
+    ensures { IfOk result IsStorableStmt }
+{
+    if piece.len() > MOST_BYTES {
+        return Err(ParseFault::Syntax);
+    }
+    let Ok(tokens) = tokens(alloc, piece) else {
+        return Err(ParseFault::Syntax);
+    };
+    match pt_parse_ddl::parse(alloc, piece, &tokens) {
+        Err(ParseFault::Syntax) => pt_parse_dml::parse(alloc, piece, &tokens),
+        read => read,
+    }
+}
