@@ -40,7 +40,7 @@ use Rattle.pt_holds.proofs.Left.{spells_none}
 
 -- ---- one list of rows
 
-one_text : (a b : List Record) → AllByRecursion IsRecord a → AllByRecursion IsRecord b → flat_map record_bytes a ≡ flat_map record_bytes b → a ≡ b
+pub one_text : (a b : List Record) → AllByRecursion IsRecord a → AllByRecursion IsRecord b → flat_map record_bytes a ≡ flat_map record_bytes b → a ≡ b
 one_text [] [] each_a each_b e = refl
 one_text [] (r ∷ b) each_a each_b e =
     absurd (omega (arith, ap (λ (xs : List ℕ). length xs) e, length-append (record_bytes r) (flat_map record_bytes b), record_takes r))
@@ -112,10 +112,10 @@ table_parts a b d e xs ys names defs rows =
     ∙ ap (λ (x : TableDef). let t : Table = record { name = b; def = x; rows = xs } in t) defs
     ∙ ap (λ (rs : List Row). let t : Table = record { name = b; def = e; rows = rs } in t) rows
 
-one_ok : {X : Type 0} (r : Result X ℕ) (a b : X) → r ≡ Ok a → r ≡ Ok b → a ≡ b
+pub one_ok : {X : Type 0} (r : Result X ℕ) (a b : X) → r ≡ Ok a → r ≡ Ok b → a ≡ b
 one_ok r a b x y = let e = sym x ∙ y in cc
 
-one_def : (o : Option (Result TableDef ℕ)) (a b : TableDef) → o ≡ Some (Ok a) → o ≡ Some (Ok b) → a ≡ b
+pub one_def : (o : Option (Result TableDef ℕ)) (a b : TableDef) → o ≡ Some (Ok a) → o ≡ Some (Ok b) → a ≡ b
 one_def None a b x y = cc
 one_def (Some r) a b x y = one_ok r a b (one_some r (Ok a) x) (one_some r (Ok b) y)
 

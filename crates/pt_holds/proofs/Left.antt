@@ -24,7 +24,7 @@ use Rattle.pt_holds.specs.RowChanges.{AreApart, AreOnce, is_deleted, kept, rows_
 
 -- ---- rows of a file are rows of a table
 
-has_is : (serial : ℕ) (rows : List Row) → has_row serial rows ≡ is_some (row_at rows serial)
+pub has_is : (serial : ℕ) (rows : List Row) → has_row serial rows ≡ is_some (row_at rows serial)
 has_is serial [] = refl
 has_is serial (row ∷ rows) = by_test (row.serial == serial) (has_is serial rows)
   where
@@ -32,11 +32,11 @@ has_is serial (row ∷ rows) = by_test (row.serial == serial) (has_is serial row
     by_test true rest = refl
     by_test false rest = rest
 
-none_is : (o : Option (List Value)) → is_some o ≡ false → o ≡ None
+pub none_is : (o : Option (List Value)) → is_some o ≡ false → o ≡ None
 none_is None e = refl
 none_is (Some cells) e = absurd (true≢false e)
 
-placed_is : (row : Row) (rows : List Row) → row_at rows row.serial ≡ None → file.with_row row rows ≡ with_row row rows
+pub placed_is : (row : Row) (rows : List Row) → row_at rows row.serial ≡ None → file.with_row row rows ≡ with_row row rows
 placed_is row [] none = refl
 placed_is row (other ∷ rows) none = go (nat_lt row.serial other.serial) (row.serial == other.serial) (apart (other.serial == row.serial) refl none) (placed_is row rows (behind (other.serial == row.serial) none))
   where
@@ -73,7 +73,7 @@ none_behind row rows up =
     found_cells None = None
     found_cells (Some r) = Some r.cells
 
-without_is : (serial : ℕ) (rows : List Row) → AreRising rows → file.without_row serial rows ≡ others serial rows
+pub without_is : (serial : ℕ) (rows : List Row) → AreRising rows → file.without_row serial rows ≡ others serial rows
 without_is serial [] up = refl
 without_is serial (row ∷ rows) up = by_test (row.serial == serial) refl (without_is serial rows (sorted_tail nat_cmp row.serial (map serial_of rows) up))
   where

@@ -95,7 +95,7 @@ fn add_puts(
 }
 
 /// The name of the file of a spot's rows.
-fn file_of(table: &Ident, def: &TableDef, spot: Spot) -> Name
+pub fn file_of(table: &Ident, def: &TableDef, spot: Spot) -> Name
     ensures { result ≡ spot_file table.now def.now spot }
 {
     match leaf(def, spot) {

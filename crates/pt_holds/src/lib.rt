@@ -2,6 +2,7 @@
 //!
 //! - `Holds` says, name by name, which database a map of files holds: a definition and a row file for each spot of each table, no
 //!   other row file, and the counter. `Bad` says what of a file is damaged, and where.
+//! - `file_of` is the name of the file of a spot's rows (`spot_file`).
 //! - `holds_at_most_one`: files hold one database at most. `empty_holds`: no files, or an empty counter alone, hold the empty one.
 //! - `RowChange` and `ShapeChange` are the changes that are made of files; `IsChangeOf` and `IsShapeOf` say which database they make
 //!   of another.
@@ -17,6 +18,6 @@ mod batch;
 mod change;
 mod laws;
 
-pub use batch::batch_of;
+pub use batch::{batch_of, file_of};
 pub use change::{RowChange, ShapeChange};
 pub use laws::{empty_holds, holds_at_most_one};

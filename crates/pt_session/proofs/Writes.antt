@@ -1,15 +1,19 @@
 -- What a change of rows leaves of a session.
-use Rattle.std.proofs.Common.{◌≡◌, ◌⊎◌, inl, inr, ℕ, Bool, true, false, true≢false, List, map, refl, sym, ap, ◌∙◌, subst}
-use Rattle.std.specs.Prelude.{Some, IsSome, IsSomeAnd, IfOk, IsTrue, Result, Ok, Err}
-use Rattle.std.specs.Option.{option_map}
+use Rattle.std.proofs.Common.{◌≡◌, ◌⊎◌, inl, inr, ℕ, ◌<◌, ◌≤◌, ◌^◌, Bool, true, false, true≢false, List, map, refl, sym, ap, ◌∙◌, subst, ◌++◌, [], append-nil}
+use Rattle.std.specs.Prelude.{Some, None, Option, IsSome, IsSomeAnd, IfOk, IsTrue, Result, Ok, Err}
+use Rattle.std.specs.Option.{option_map, unwrap_or}
 use Rattle.std.specs.Str.{bytes_eq}
 use Rattle.std.proofs.lemmas.List.Elements.{All-weaker}
 use Rattle.std.proofs.lemmas.Slice.Eq.{bytes_eq-Decides}
 use Rattle.pt_rowfile.proofs.Parts.{one_some}
+use Rattle.pt_rowfile.specs.Counter.{counter_of}
+use Rattle.pt_bytes.specs.Numbers.{le_bytes}
+use Rattle.pt_place.specs.Place.{leaf_of}
+use Rattle.pt_defs.specs.Reading.{def_at}
 use Rattle.pt_value.specs.Ident.{IsIdent}
 use Rattle.pt_host.specs.Listed.{FileList, by_name}
 use Rattle.pt_host.specs.World.{World}
-use Rattle.pt_names.specs.Names.{serials_name}
+use Rattle.pt_names.specs.Names.{def_name, serials_name}
 use Rattle.pt_ast.specs.declared.database.Db.{Db}
 use Rattle.pt_ast.specs.declared.database.Row.{Row}
 use Rattle.pt_ast.specs.declared.database.Table.{Table}
@@ -17,20 +21,22 @@ use Rattle.pt_ast.specs.declared.table.TableDef.{TableDef}
 use Rattle.pt_store.specs.declared.store.Store.{Store}
 use Rattle.pt_store.specs.declared.stop.Stop.{Stop}
 use Rattle.pt_store.specs.declared.stop.Stop.TheVariants.{NoMemory, Fault, Bad}
-use Rattle.pt_store.specs.Batch.{IsBatch, appended}
+use Rattle.pt_store.specs.Batch.{IsBatch, added_to, appended}
 use Rattle.pt_store.specs.Entries.{length_in}
 use Rattle.pt_store.specs.Stops.{ByStop}
 use Rattle.pt_store.specs.Store as store
 use Rattle.pt_store.specs.Store.{IsStore, sizes}
+use Rattle.pt_store.proofs.Listing.{appended_read}
 use Rattle.pt_db.specs.Lookup.{filled, table_of}
 use Rattle.pt_db.proofs.Lookups.{table_other, table_same}
 use Rattle.pt_holds.specs.declared.change.RowChange.{RowChange}
 use Rattle.pt_holds.specs.Batch.{IsBatchOf, IsRowFileOf}
 use Rattle.pt_holds.specs.Holds.{Holds}
 use Rattle.pt_holds.specs.RowChanges.{IsChangeOf, IsRowChange}
-use Rattle.pt_holds.proofs.Changed.{appended_holds}
+use Rattle.pt_holds.proofs.Changed.{appended_holds, counter_next}
+use Rattle.pt_holds.proofs.FileNames.{def_not_rows, def_not_serials}
 use Rattle.pt_session.specs.declared.session.Session.{Session}
-use Rattle.pt_session.specs.Session.{HasDefs, HasFilesAt, IsKept, IsOpen, StandsIn, def_of}
+use Rattle.pt_session.specs.Session.{HasDefs, HasFilesAt, IsKept, IsOpen, IsOver, IsOverAfter, StandsIn, def_of}
 use Rattle.pt_session.specs.Writing.{IsBatchFor}
 use Rattle.pt_session.proofs.Names.{files_kept, if_some, map_there, names_there, some_and, some_same}
 
@@ -47,6 +53,18 @@ filled_defs db name table rows next query held = by (bytes_eq name query) refl
     by true e = subst (λ q. option_map def_in_table (table_of (filled db name rows next) q) ≡ option_map def_in_table (table_of db q)) ((bytes_eq-Decides name query).0 e)
         (ap (λ o. option_map def_in_table o) (table_same name rows db.tables table held) ∙ sym (ap (λ o. option_map def_in_table o) held))
     by false e = ap (λ o. option_map def_in_table o) (table_other name rows db.tables query (λ same. true≢false (sym ((bytes_eq-Decides name query).1 same) ∙ e)))
+
+-- # Files with more at their ends
+
+nothing_added : (file : Option (List ℕ)) (more : List ℕ) → more ≡ [] → option_map (λ (bytes : List ℕ). bytes ++ more) file ≡ file
+nothing_added None more e = refl
+nothing_added (Some bytes) more e = ap (λ (xs : List ℕ). Some (bytes ++ xs)) e ∙ ap (λ (xs : List ℕ). Some xs) (append-nil bytes)
+
+-- the counter's file has the change's next serial behind it
+counter_behind : (file : Option (List ℕ)) (more : List ℕ) (next later : ℕ) → IsSome file → counter_of (unwrap_or file []) ≡ Ok next → more ≡ le_bytes 8 later → 0 < later → later ≤ 2 ^ 62
+    → counter_of (unwrap_or (option_map (λ (bytes : List ℕ). bytes ++ more) file) []) ≡ Ok later
+counter_behind None more next later there e is some most = absurd (true≢false (sym there))
+counter_behind (Some bytes) more next later there e is some most = ap (λ (xs : List ℕ). counter_of (bytes ++ xs)) is ∙ counter_next bytes next later e some most
 
 -- # Over every host
 
@@ -93,6 +111,19 @@ module _ (session : Session) (change : RowChange) (batch : FileList) (is_open : 
         same : for.def ≡ c.table.def
         same = one_some for.def c.table.def (sym for.held ∙ stands.defs.defs change.table named ∙ ap (λ o. option_map def_in_table o) c.held)
 
+    -- over the map with the batch the session has its definitions still, and the change's next serial
+    pub written_over : (after : Store) (files : FileList) (w : World) → IsStore session.store files w → IsOver session (by_name files)
+        → IsOver (record session { store = after; next = change.next }) (by_name (appended batch files))
+    written_over after files w kept over = record {
+      defs = λ name is. ap (λ o. option_map def_at o) (appended_read batch files (def_name name) ∙ nothing_added (by_name files (def_name name)) (added_to batch (def_name name)) (none_at name)) ∙ over.defs name is;
+      next = ap (λ o. counter_of (unwrap_or o [])) (appended_read batch files serials_name)
+          ∙ counter_behind (by_name files serials_name) (added_to batch serials_name) session.next change.next (some_same _ _ (map_there session.store files w serials_name kept) is_open.counter)
+          over.next for.of.counter is_change.least is_change.most;
+    }
+      where
+        none_at : (name : List ℕ) → added_to batch (def_name name) ≡ []
+        none_at name = for.of.others (def_name name) (def_not_serials name) (λ of. def_not_rows name change.table (leaf_of for.def of.0) of.2)
+
 -- where the batch was made
 pub batch_ok : {E : Type 0} (session : Session) (change : RowChange) (def : TableDef) (r : Result FileList E) → IsOpen session → def_of session change.table ≡ Some def
     → IfOk r (λ batch. IsBatchOf batch def change) → IfOk r (λ batch. IsBatch (sizes session.store) batch)
@@ -112,3 +143,18 @@ pub stopped_defs : (session : Session) (after : Store) (e : Stop) (db later : Db
 stopped_defs session after NoMemory db later had = record { defs = had.defs; next = had.next }
 stopped_defs session after (Bad name place) db later had = record { defs = had.defs; next = had.next }
 stopped_defs session after Fault db later had = tt
+
+-- # Over a map
+
+-- where the call stopped, the session is over the old map still
+pub err_over : (T : Type 0) (session : Session) (files next : FileList) (e : Stop) → IsOver session (by_name files) → IsOverAfter {T = T} session files next (Err e)
+err_over T session files next NoMemory over = over
+err_over T session files next (Bad name place) over = over
+err_over T session files next Fault over = tt
+
+pub stopped_over : {T : Type 0} (session : Session) (files next : FileList) (e : Stop) (result : Result T Stop) → result ≡ Err e → IsOver session (by_name files) → IsOverAfter session files next result
+stopped_over {T} session files next e result stops over = subst (λ (r : Result T Stop). IsOverAfter session files next r) (sym stops) (err_over T session files next e over)
+
+-- with another store it has the same definitions and next serial
+pub over_with : (session : Session) (after : Store) (files : FileList) → IsOver session (by_name files) → IsOver (record session { store = after }) (by_name files)
+over_with session after files over = record { defs = over.defs; next = over.next }

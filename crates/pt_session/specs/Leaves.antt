@@ -1,14 +1,17 @@
 -- What calls and statements leave of the database that a session stands for.
 use Rattle.std.specs.Prelude.{◌≡◌, ◌⊎◌, Result, IfOk, OnOk}
 use Rattle.pt_host.specs.Listed.{FileList, by_name}
+use Rattle.pt_host.specs.World.{World, OnlyLooks}
 use Rattle.pt_ast.specs.declared.database.Db.{Db}
 use Rattle.pt_ast.specs.declared.reply.Reply.{Reply}
 use Rattle.pt_store.specs.declared.stop.Stop.{Stop}
 use Rattle.pt_store.specs.Stops.{ByStop, IfBad}
 use Rattle.pt_db.specs.Outcome.{Outcome, db_behind, reply_of}
+use Rattle.pt_store.specs.Step.{IsStep}
+use Rattle.pt_holds.specs.Bad.{Bad}
 use Rattle.pt_holds.specs.Holds.{Holds}
 use Rattle.pt_session.specs.declared.session.Session.{Session}
-use Rattle.pt_session.specs.Session.{HasDefs}
+use Rattle.pt_session.specs.Session.{HasDefs, IsOver, IsOverAfter, StandsIn}
 
 -- What a call leaves whose success makes a later database of this one: the other map that an image may stand for is the old one,
 -- or holds the later database; after Ok it does; and unless the disk failed the session has the definitions of one of the two.
@@ -23,3 +26,14 @@ pub record Executes (after : Session) (map next : FileList) (db : Db) (outcome :
   pub leaves : Leaves after map next db (db_behind db outcome) result
   pub reply : IfOk result (λ reply. reply ≡ reply_of outcome)
   pub not_bad : IfBad result (λ name place. ⊥)
+
+-- What the execution of a statement with this meaning tells, where the store stood for this map. At every moment each image stands for
+-- the map or the next one. Of a database that the map holds it leaves and answers what the statement means; a statement that leaves the
+-- database as it is changes neither files nor session. A bad file is one of the map's.
+pub record Tells (meaning : Db → Outcome) (before after : Session) (map : FileList) (old new : World) (result : Result Reply Stop) : Type 0 where
+  pub next : FileList
+  pub step : IsStep after.store map next old new result
+  pub over : IsOver before (by_name map) → IsOverAfter after map next result
+  pub executes : (db : Db) → StandsIn before map db → Executes after map next db (meaning db) result
+  pub idle : (db : Db) → StandsIn before map db → db_behind db (meaning db) ≡ db → OnlyLooks old new × (after ≡ before)
+  pub bad : IsOver before (by_name map) → IfBad result (λ name place. Bad (by_name map) name place)

@@ -1,17 +1,20 @@
 -- What a session is, and what it stands for.
-use Rattle.std.specs.Prelude.{◌≡◌, ℕ, ◌<◌, ◌≤◌, ◌^◌, Bool, List, Option, Some, None, IfSome, IsSome, IsTrue, Result, nat_eq, false}
+use Rattle.std.specs.Prelude.{◌≡◌, ◌⊎◌, ℕ, ◌<◌, ◌≤◌, ◌^◌, Bool, List, Option, Some, None, IfSome, IsSome, IsTrue, Result, Ok, All, nat_eq, false}
 use Rattle.std.specs.Option.{option_map}
 use Rattle.std.specs.Cmp.Lexicographic.{pointwise}
 use Rattle.indexmap.specs.IndexMap.{get}
 use Rattle.pt_value.specs.Ident.{IsIdent}
+use Rattle.pt_host.specs.Disk.{Files}
 use Rattle.pt_host.specs.Listed.{FileList, by_name}
 use Rattle.pt_host.specs.World.{World}
 use Rattle.pt_names.specs.Names.{def_name, row_name, serials_name}
 use Rattle.pt_ast.specs.declared.database.Db.{Db}
+use Rattle.pt_ast.specs.declared.database.Row.{Row}
 use Rattle.pt_ast.specs.declared.database.Spot.{Spot}
 use Rattle.pt_ast.specs.declared.table.TableDef.{TableDef}
 use Rattle.pt_ast.specs.StorableDef.{IsStorableDef}
 use Rattle.pt_place.specs.Valid.{IsValid}
+use Rattle.pt_defs.specs.Reading.{def_at}
 use Rattle.pt_store.specs.declared.store.Store.{Store}
 use Rattle.pt_store.specs.declared.stop.Stop.{Stop}
 use Rattle.pt_store.specs.Entries.{length_in}
@@ -19,7 +22,10 @@ use Rattle.pt_store.specs.Stops.{ByStop}
 use Rattle.pt_store.specs.Store as store
 use Rattle.pt_store.specs.Store.{IsStore, sizes}
 use Rattle.pt_db.specs.Lookup.{table_of}
+use Rattle.pt_db.specs.Rows.{AreRising}
 use Rattle.pt_db.specs.Spots.{IsSpotOf}
+use Rattle.pt_holds.specs.Bad.{HasNext}
+use Rattle.pt_holds.specs.Fit.{FitsSpot}
 use Rattle.pt_holds.specs.Holds.{HasLeaf, Holds, spot_file}
 use Rattle.pt_session.specs.declared.session.Session.{Session}
 
@@ -76,6 +82,28 @@ pub record IsOpen (session : Session) : Type 0 where
 -- What a call that changes the session leaves of it: it is open after Ok, as it was where the call stopped, and failed after a fault.
 abbrev pub IsOpenAfter : {T : Type 0} → Session → Session → Result T Stop → Type 0
 IsOpenAfter old new result = ByStop result (IsOpen new) (new ≡ old) (is_live new ≡ false)
+
+-- What a statement leaves of a session: it is open after Ok, and as it was where the statement stopped. After a fault it is as it was,
+-- where a file couldn't be read, or it has failed.
+abbrev pub IsLeftAfter : {T : Type 0} → Session → Session → Result T Stop → Type 0
+IsLeftAfter old new result = ByStop result (IsOpen new) (new ≡ old) ((new ≡ old) ⊎ (is_live new ≡ false))
+
+-- Rows of a spot, over every host: they fit the columns, are placed there, and their serials rise from 1 to below the next one.
+pub record AreSpotRows (next : ℕ) (def : TableDef) (spot : Spot) (rows : List Row) : Type 0 where
+  pub each : All (FitsSpot next def spot) rows
+  pub least : All (λ row. 0 < row.serial) rows
+  pub rising : AreRising rows
+
+-- ---- where its store stands for a map, whether or not that holds a database
+
+-- Over these files the session has the definitions that they spell, and the next serial of their counter.
+pub record IsOver (session : Session) (files : Files) : Type 0 where
+  pub defs : (name : List ℕ) → IsIdent name → option_map def_at (files (def_name name)) ≡ option_map Ok (def_of session name)
+  pub next : HasNext files session.next
+
+-- What a call leaves whose success puts `next` in the place of `map`: it is so over the one or the other, unless the disk failed.
+abbrev pub IsOverAfter : {T : Type 0} → Session → FileList → FileList → Result T Stop → Type 0
+IsOverAfter after map next result = ByStop result (IsOver after (by_name next)) (IsOver after (by_name map)) (Unit {0})
 
 -- ---- where a database is held
 

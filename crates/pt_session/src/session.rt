@@ -1,16 +1,23 @@
-ghost use Rattle.std.specs.Prelude.{◌≡◌, slice_get, IsSomeAnd};
+ghost use Rattle.std.specs.Prelude.{◌≡◌, [], ◌∷◌, ◌++◌, length, slice_get, IfOk, OnOk, IsSome, IsSomeAnd, Some};
+ghost use Rattle.std.specs.Map.{remove_entry};
 ghost use Rattle.std.specs.Option.{option_copied, option_map};
-ghost use Rattle.pt_host.specs.Listed.{FileList};
+ghost use Rattle.std.specs.Str.{bytes_eq};
+ghost use Rattle.pt_host.specs.Listed.{FileList, by_name};
 ghost use Rattle.pt_ast.specs.declared.database.Db.{Db};
 ghost use Rattle.pt_left.specs.Left.{IsWhole};
 ghost use Rattle.pt_store.specs.Stops.{IfBad, IsCounted};
 ghost use Rattle.pt_holds.specs.RowChanges.{IsChangeOf, IsRowChange};
 
+use crate::looking::fitting_rows;
+use crate::opening::{read_next, read_tables};
+use crate::shaping::{add_last, creating, dropping, take_out};
+use crate::strays::check_files;
 use crate::tables::{TableDefs, TableName};
 use crate::writing::batch_for;
-use pt_ast::TableDef;
-use pt_holds::RowChange;
+use pt_ast::{Rows, Spot, TableDef};
+use pt_holds::{RowChange, file_of};
 use pt_host::Host;
+use pt_plain::List;
 use pt_store::{Stop, Store};
 use pt_value::Ident;
 use std::alloc::Global;
@@ -30,8 +37,45 @@ pub struct Session {
 impl Session {
     ghost use Rattle.pt_store.specs.Store.{IsStore};
     ghost use Rattle.pt_store.specs.Step.{IsStep};
-    ghost use Rattle.pt_session.specs.Session.{HasMap, IsOpen, IsOpenAfter, StandsIn, def_of, is_live, tables_of};
+    ghost use Rattle.pt_host.specs.Disk.{IsAtRest, shown};
+    ghost use Rattle.pt_store.specs.Step.{IsLook, OnlyClears};
+    ghost use Rattle.pt_db.specs.Spots.{IsSpotOf};
+    ghost use Rattle.pt_holds.specs.Bad.{Bad};
+    ghost use Rattle.pt_holds.specs.Holds.{HoldsRows, spot_file};
+    ghost use Rattle.pt_holds.specs.ShapeChanges.{IsCreate, IsCreateOf, IsDropOf};
+    ghost use Rattle.pt_session.specs.Directory.{IsDamaged, IsOpened};
+    ghost use Rattle.pt_session.specs.Session.{AreSpotRows, HasMap, IsOpen, IsOpenAfter, IsOver, IsOverAfter, StandsIn, def_of, is_live, tables_of};
     ghost use Rattle.pt_session.specs.Leaves.{Leaves};
+
+    /// Opens the directory that was entered, whose files stand at rest: reads the definitions and the counter, and no row file. A
+    /// shadow that an earlier run left is removed first. `Bad` where `whole.map` spells no map, a definition or the counter isn't in
+    /// its grammar, a definition isn't valid (place 12), or a row file is missing or belongs to no definition (place 0).
+    pub fn begin<H: Host>(alloc: Global, host: &mut H) -> Result<Session, Stop>
+        requires entered { H.tells → IsSome (H.world host.old).dir }
+        requires rest { H.tells → IsAtRest (H.world host.old).now.fs }
+        ensures opened { IfOk result (λ session. H.tells → IsOpened session (H.world host.old) (H.world host.new)) }
+        // At every moment, whatever is answered, a leftover shadow is removed at most.
+        ensures clears { H.tells → OnlyClears (H.world host.old) (H.world host.new) }
+        ensures bad { IfBad result (λ name place. H.tells → IsDamaged (shown (H.world host.old).now.fs) name place × IsDamaged (shown (H.world host.new).now.fs) name place) }
+        ensures open { IfOk result IsOpen }
+        ensures counts { IsCounted (H.counts host.old) (H.counts host.new) result }
+    {
+        let store = Store::attach(alloc, host)?;
+        let next = read_next(&store, host)?;
+        let tables = read_tables(alloc, &store, host)?;
+        check_files(alloc, &store, &tables)?;
+        Ok(Session {
+            alloc,
+            store,
+            tables,
+            next,
+        })
+    }
+
+    /// The allocator that the session was opened with.
+    pub fn alloc(&self) -> Global {
+        self.alloc
+    }
 
     /// Whether no call that changes the directory has answered `Fault`.
     pub fn is_live(&self) -> bool
@@ -54,13 +98,88 @@ impl Session {
         self.tables.get(&TableName { ident: *name })
     }
 
-    /// The i-th table, counted from 0. `None` exactly where there are no more than i. Tables stand by rising name at the opening;
-    /// a table that comes later stands last, and one that goes closes up.
+    /// The i-th table, counted from 0. `None` exactly where there are no more than i. At the opening tables stand by the rising names
+    /// of their definitions' files; a table that comes later stands last, and one that goes closes up.
     pub fn table_at(&self, i: usize) -> Option<(&Ident, &TableDef)>
         ensures { option_map (λ table. (table.0.now, table.1.now)) result ≡ slice_get (tables_of self.now) i }
     {
         let (name, def) = self.tables.get_index(i)?;
         Some((&name.ident, def))
+    }
+
+    /// How many tables there are.
+    pub(crate) fn table_count(&self) -> usize
+        ensures { result ≡ length (tables_of self.now) }
+    {
+        self.tables.len()
+    }
+
+    /// The rows of a spot of the table, by rising serial. `Bad`, of the spot's file, exactly where a record in it isn't proper, or else a
+    /// row that is left doesn't fit the columns, isn't placed in the spot or has a serial that isn't below the next one: with the
+    /// place of the first such record.
+    pub fn rows<H: Host>(&self, host: &mut H, table: &Ident, spot: Spot) -> Result<Rows, Stop>
+        requires open { IsOpen self.now }
+        requires spot { IsSomeAnd (def_of self.now table.now) (λ def. IsSpotOf def spot) }
+        requires stands { H.tells → HasMap self.now (H.world host.old) }
+        // It touches no file, and the store stands for its map still.
+        ensures told { H.tells → (map : FileList) → IsStore self.now.store map (H.world host.old) → IsLook self.now.store map (H.world host.old) (H.world host.new) }
+        ensures rows { IfOk result (λ rows. H.tells → (map : FileList) → IsStore self.now.store map (H.world host.old) → (def : TableDef) → def_of self.now table.now ≡ Some def → HoldsRows (by_name map) (spot_file table.now def spot) rows) }
+        // Over every host.
+        ensures fit { IfOk result (λ rows. (def : TableDef) → def_of self.now table.now ≡ Some def → AreSpotRows self.now.next def spot rows) }
+        ensures bad { IfBad result (λ name place. H.tells → (map : FileList) → IsStore self.now.store map (H.world host.old) → IsOver self.now (by_name map) → Bad (by_name map) name place) }
+        ensures counts { IsCounted (H.counts host.old) (H.counts host.new) result }
+    {
+        let Some(def) = self.table(table) else {
+            unreachable!()
+        };
+        let file = file_of(table, def, spot);
+        let bytes = self.store.read(host, &file)?;
+        fitting_rows(self.alloc, &file, bytes.as_slice(), self.next, def, spot)
+    }
+
+    /// Adds a table of this definition, which has no rows, behind the others. `NoMemory` leaves the directory's database and the
+    /// session as they were. After `Fault` the session is no longer live.
+    pub fn create_table<H: Host>(
+        &mut self,
+        host: &mut H,
+        name: &Ident,
+        def: &TableDef,
+    ) -> Result<(), Stop>
+        requires open { IsOpen self.old }
+        requires change { IsCreate (def_of self.old) name.now def.now }
+        requires stands { H.tells → HasMap self.old (H.world host.old) }
+        // At every moment, whatever is answered, the directory stands for the old map or another one; of a database that the old map
+        // held, the other holds the one with the table.
+        ensures told { H.tells → (map : FileList) → IsStore self.old.store map (H.world host.old) → (next : FileList) × IsStep self.new.store map next (H.world host.old) (H.world host.new) result × (IsOver self.old (by_name map) → IsOverAfter self.new map next result) × ((db later : Db) → StandsIn self.old map db → IsCreateOf name.now def.now db later → Leaves self.new map next db later result) }
+        ensures open { IsOpenAfter self.old self.new result }
+        ensures last { OnOk result (tables_of self.new ≡ tables_of self.old ++ (name.now, def.now) ∷ []) }
+        ensures bad { IfBad result (λ name place. IsWhole name place × (H.tells → ⊥)) }
+        ensures counts { IsCounted (H.counts host.old) (H.counts host.new) result }
+    {
+        let coming = creating(self.alloc, self, name, def)?;
+        self.store.reshape(host, &coming.fresh, &coming.chain)?;
+        add_last(&mut self.tables, coming.tables);
+        Ok(())
+    }
+
+    /// Takes the table of this name away, with all its rows; the others keep their order. `NoMemory` leaves the directory's database
+    /// and the session as they were. After `Fault` the session is no longer live.
+    pub fn drop_table<H: Host>(&mut self, host: &mut H, name: &Ident) -> Result<(), Stop>
+        requires open { IsOpen self.old }
+        requires change { IsSome (def_of self.old name.now) }
+        requires stands { H.tells → HasMap self.old (H.world host.old) }
+        // At every moment, whatever is answered, the directory stands for the old map or another one; of a database that the old map
+        // held, the other holds the one without the table.
+        ensures told { H.tells → (map : FileList) → IsStore self.old.store map (H.world host.old) → (next : FileList) × IsStep self.new.store map next (H.world host.old) (H.world host.new) result × (IsOver self.old (by_name map) → IsOverAfter self.new map next result) × ((db later : Db) → StandsIn self.old map db → IsDropOf name.now db later → Leaves self.new map next db later result) }
+        ensures open { IsOpenAfter self.old self.new result }
+        ensures rest { OnOk result (tables_of self.new ≡ remove_entry (bytes_eq name.now) (tables_of self.old)) }
+        ensures bad { IfBad result (λ name place. IsWhole name place × (H.tells → ⊥)) }
+        ensures counts { IsCounted (H.counts host.old) (H.counts host.new) result }
+    {
+        let chain = dropping(self.alloc, self, name)?;
+        self.store.reshape(host, &List::new(self.alloc), &chain)?;
+        take_out(&mut self.tables, TableName { ident: *name });
+        Ok(())
     }
 
     /// Takes rows of a table away, adds rows to it and sets the next serial. `NoMemory` leaves the directory's database and the
@@ -71,7 +190,7 @@ impl Session {
         requires stands { H.tells → HasMap self.old (H.world host.old) }
         // At every moment, whatever is answered, the directory stands for the old map or another one; of a database that the old map
         // held, the other holds the one that the change makes of it.
-        ensures told { H.tells → (map : FileList) → IsStore self.old.store map (H.world host.old) → (next : FileList) × IsStep self.new.store map next (H.world host.old) (H.world host.new) result × ((db later : Db) → StandsIn self.old map db → IsChangeOf change.now db later → Leaves self.new map next db later result) }
+        ensures told { H.tells → (map : FileList) → IsStore self.old.store map (H.world host.old) → (next : FileList) × IsStep self.new.store map next (H.world host.old) (H.world host.new) result × (IsOver self.old (by_name map) → IsOverAfter self.new map next result) × ((db later : Db) → StandsIn self.old map db → IsChangeOf change.now db later → Leaves self.new map next db later result) }
         ensures open { IsOpenAfter self.old self.new result }
         ensures bad { IfBad result (λ name place. IsWhole name place × (H.tells → ⊥)) }
         ensures counts { IsCounted (H.counts host.old) (H.counts host.new) result }

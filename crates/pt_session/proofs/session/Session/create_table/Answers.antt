@@ -1,0 +1,52 @@
+use Rattle.std.proofs.Common.{◌∙◌, ◌++◌, refl, sym, ap, subst}
+use Rattle.std.specs.Prelude.{Result, Err}
+use Rattle.std.proofs.lemmas.Result.{err_from_is_err_and}
+use Rattle.pt_store.specs.declared.stop.Stop.{Stop}
+use Rattle.pt_store.specs.Step.{IsStep}
+use Rattle.pt_store.proofs.Steps.{stopped_step}
+use Rattle.pt_session.proofs.Executing.{leaves_stopped}
+use Rattle.pt_session.proofs.Shaped.{came_holds, came_leaves, came_open, came_over, unkept_leaves}
+use Rattle.pt_session.proofs.Writes.{over_with, stopped_over}
+use Rattle.pt_session.proofs.session.Session.create_table.Goals as goal
+
+pub returns-in_err-coming-clause-told : goal.returns-in_err-coming-clause-told
+returns-in_err-coming-clause-told g c tells map is =
+    let p = err_from_is_err_and c.from_residual.result c.from_residual.ensures.1 in (
+      map,
+      stopped_step c.args.self.now.store map map p.0 c.from_residual.result (g.H.Host.world c.args.host.now) p.1 is,
+      λ over. stopped_over c.args.self.now map map p.0 c.from_residual.result p.1 over,
+      λ db later stands change. leaves_stopped c.args.self.now map db stands later p.0 c.from_residual.result p.1,
+    )
+
+pub returns-in_err-reshape-clause-told : goal.returns-in_err-reshape-clause-told
+returns-in_err-reshape-clause-told g c tells map is =
+    let p = err_from_is_err_and c.from_residual-in_err-reshape.result c.from_residual-in_err-reshape.ensures.1 in
+    let told = c.in_err-reshape.ensures.told tells map is in
+    let stops = p.1 ∙ ap (λ (e : Stop). Err e) p.2 in (
+      told.0,
+      subst (λ (r : Result (Unit {0}) Stop). IsStep c.reshape.new.self map told.0 (g.H.Host.world c.args.host.now) (g.H.Host.world c.reshape.new.host) r) (sym stops) told.2,
+      λ over. stopped_over _ map told.0 _ c.from_residual-in_err-reshape.result stops (over_with c.args.self.now c.reshape.new.self map over),
+      λ db later stands change. unkept_leaves c.args.self.now c.reshape.new.self map told.0 db later _ c.from_residual-in_err-reshape.result stops stands.defs
+          (came_holds c.args.self.now c.args.name.now c.args.def.now c.in_ok-coming.coming c.requires.open c.requires.change c.in_ok-coming.ensures.of c.in_ok-coming.ensures.asks map told.0 db later told.1 stands change),
+    )
+
+pub returns-clause-told : goal.returns-clause-told
+returns-clause-told g c tells map is =
+    let told = c.in_ok-reshape.ensures.told tells map is in (
+      told.0,
+      told.2,
+      λ over. came_over c.args.self.now c.args.name.now c.args.def.now c.in_ok-coming.coming c.requires.open c.requires.change c.in_ok-coming.ensures.of c.in_ok-coming.ensures.asks _ c.add_last.ensures.each refl map told.0 told.1 over,
+      λ db later stands change. came_leaves c.args.self.now c.args.name.now c.args.def.now c.in_ok-coming.coming c.requires.open c.requires.change c.in_ok-coming.ensures.of c.in_ok-coming.ensures.asks _ c.add_last.ensures.each refl map told.0 db later told.1 stands change,
+    )
+
+pub returns-clause-open : goal.returns-clause-open
+returns-clause-open g c = came_open c.args.self.now c.args.name.now c.args.def.now c.in_ok-coming.coming c.requires.open c.requires.change c.in_ok-coming.ensures.of c.in_ok-coming.ensures.asks _ c.add_last.ensures.each refl c.in_ok-reshape.ensures.after
+
+pub add_last-requires : goal.add_last-requires
+add_last-requires g c = record {
+  room = c.in_ok-coming.ensures.of.room;
+  entry = ((c.args.name.now, c.args.def.now), c.in_ok-coming.ensures.of.entry, c.requires.change.free);
+}
+
+pub returns-clause-last : goal.returns-clause-last
+returns-clause-last g c = c.add_last.ensures.last ∙ ap (λ entries. c.args.self.now.tables.entries ++ entries) c.in_ok-coming.ensures.of.entry
