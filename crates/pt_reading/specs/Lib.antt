@@ -1,0 +1,4 @@
+pub mod Reading
+pub mod Blank
+pub mod Script
+pub mod Taking
