@@ -1,13 +1,37 @@
 -- One turn of taking the input.
-use Rattle.std.proofs.Common.{◌≡◌, ℕ, true, false, List, ◌++◌, take, drop, ap, ◌∙◌, sym, arith, append_assoc, take-append-drop}
+use Rattle.std.proofs.Common.{◌≡◌, ℕ, ◌≤◌, ◌^◌, true, false, not, nat_le, if◌then◌else◌, List, ◌++◌, length, take, drop, [], ap, ◌∙◌, sym, arith, append_assoc, take-append-drop, All}
+use Rattle.std.proofs.lemmas.Bool.{leb-true}
 use Rattle.std.proofs.lemmas.Grind.{common_steps}
-use Rattle.pt_host.specs.World.{World, after_take}
-use Rattle.pt_host.specs.World.{Takes}
-use Rattle.pt_engine.specs.declared.script.Script.{Script}
+use Rattle.std.proofs.lemmas.List.Elements.{All-filter, All-same, All-weaker}
+use Rattle.pt_host.specs.World.{World, Takes, after_take}
+use Rattle.pt_plain.proofs.Fronts.{front_passes}
+use Rattle.pt_token.specs.Pieces.{closed_pieces, cuts, fits, most_piece, most_script, pieces}
+use Rattle.pt_reading.specs.declared.script.Script.{Script}
+use Rattle.pt_reading.specs.Blank.{is_blank}
+use Rattle.pt_reading.specs.Script.{TakesWithin, statements}
+use Rattle.pt_reading.specs.Taking.{IsCutShort, IsWhole}
+use Rattle.pt_reading.specs.Taking.{Takes as Feeds}
 use Rattle.pt_engine.specs.Input.{with_input, TakesOnly, TakesScript, TakesFront}
-use Rattle.pt_engine.specs.Script.{TakesWithin}
-use Rattle.pt_engine.specs.Taking.{Takes as Feeds}
-use Rattle.pt_engine.proofs.TakingLemmas.{taken_within}
+use Rattle.pt_reading.proofs.TakingLemmas.{taken_within}
+
+-- # The statements of a script keep the limit of a piece
+
+abbrev IsShort : List ℕ → Type 0
+IsShort piece = length piece ≤ 2 ^ 20
+
+statements_short : (script : List ℕ) → All IsShort (statements script)
+unfolding cuts
+statements_short script =
+    All-filter (λ piece. not (is_blank piece)) IsShort (cuts script)
+    (All-weaker (λ piece. fits piece ≡ true) IsShort (λ piece e. leb-true (length piece) most_piece e) (cuts script) (front_passes fits (if nat_le (length script) most_script then pieces script else closed_pieces (take most_script script))))
+
+pub short_cut : (script : Script) (front : List ℕ) → IsCutShort front script → All IsShort script.statements
+short_cut script front is = All-same IsShort script.statements _ (is []).0 (statements_short (front ++ []))
+
+pub short_whole : (script : Script) (all : List ℕ) → IsWhole all script → All IsShort script.statements
+short_whole script all is = All-same IsShort script.statements _ is.statements (statements_short all)
+
+-- # One turn
 
 -- what was taken, and what is left
 taken_bytes : (input before after bytes : List ℕ) (count : ℕ) → Takes input count before after → bytes ≡ take count after → bytes ≡ take count input

@@ -1,16 +1,7 @@
 pub mod Overwrites
-pub mod Exits
-pub mod Numbers
-pub mod Tests
-pub mod Lexing
-pub mod Sound
-pub mod Complete
-pub mod Cuts
-pub mod TakingLemmas
 pub mod InputLemmas
 pub mod AnswerLemmas
+pub mod Unchanged
 pub mod SessionLemmas
 pub mod SayingLemmas
-pub mod OpeningLemmas
 pub mod RunLemmas
-pub mod Unchanged

@@ -1,29 +1,41 @@
 -- A run: the directory is opened, the input taken, and its statements answered.
-use Rattle.pt_engine.specs.declared.ending.Ending.{Ending}
-use Rattle.pt_engine.specs.declared.ending.Ending.TheVariants.{Done, Usage, DiskFault, NoMemory, Damaged, InputFault, OutputFault, TooLong}
 use Rattle.std.proofs.Common.{◌≡◌, inl, inr, ℕ, Bool, true, false, List, [], refl, ap, ◌∙◌, sym, subst, arith}
 use Rattle.std.proofs.lemmas.List.{append-nil}
 use Rattle.std.proofs.lemmas.List.Elements.{All-nil}
-use Rattle.pt_host.specs.Disk.{Fs, Files, EachImage, IsAtRest, shown}
-use Rattle.pt_host.specs.World.{World, Since, IsQuiet, IsIdle, after_enter}
-use Rattle.pt_host.specs.Replacement.{AsBeforeBut}
-use Rattle.pt_host.proofs.Runs.{since_then, since_weaken, quiet_weaken}
-use Rattle.pt_left.specs.Left.{IsLeft, shadow_name}
-use Rattle.pt_left.proofs.Directories.{at_rest_left}
-use Rattle.pt_flat.specs.declared.data.Db.{Db}
-use Rattle.pt_table_files.proofs.Directories.{one_held}
+use Rattle.std.specs.Prelude.{Err}
 use Rattle.pt_host.specs.Counts.{Counts}
-use Rattle.pt_engine.specs.Causes.{IsCaused, NoneRose}
+use Rattle.pt_host.specs.Disk.{Fs, Files, EachImage, IsAtRest, IsSound, shown}
+use Rattle.pt_host.specs.Listed.{by_name}
+use Rattle.pt_host.specs.World.{World, Since, IsQuiet, IsIdle, after_enter}
+use Rattle.pt_host.proofs.Runs.{since_then, since_weaken, quiet_weaken}
+use Rattle.pt_host.proofs.Shown.{shown_has}
+use Rattle.pt_left.specs.Left.{IsLeft}
+use Rattle.pt_left.proofs.Directories.{at_rest_left}
+use Rattle.pt_left.proofs.Once.{left_once}
+use Rattle.pt_ast.specs.declared.database.Db.{Db}
+use Rattle.pt_store.specs.declared.stop.Stop.{Stop}
+use Rattle.pt_store.specs.declared.stop.Stop.TheVariants as stop
+use Rattle.pt_store.specs.Stops.{IfBad, IsCounted}
+use Rattle.pt_store.specs.Step.{OnlyClears}
+use Rattle.pt_holds.specs.Holds.{Holds}
+use Rattle.pt_reading.specs.Script.{has_excess, statements, TakesWithin}
+use Rattle.pt_session.specs.declared.session.Session.{Session}
+use Rattle.pt_session.specs.Directory.{HoldsIn, IsDamaged, IsOpened, File, Whole}
+use Rattle.pt_session.specs.Session.{IsSession}
+use Rattle.pt_session.proofs.Excludes.{bad_excludes}
+use Rattle.pt_engine.specs.declared.ending.Ending.{Ending}
+use Rattle.pt_engine.specs.declared.ending.Ending.TheVariants.{Done, Usage, DiskFault, NoMemory, Damaged, InputFault, OutputFault, TooLong}
 use Rattle.pt_engine.specs.Answers.{AreFirst, ChangesNothing, HoldsAfter}
-use Rattle.pt_table_files.specs.Directory.{HoldsIn}
-use Rattle.pt_engine.specs.Kept.{IsInOrder, KeepsInOrder, StandsAfter, StandsKeeping}
-use Rattle.pt_engine.specs.Script.{has_excess, statements, TakesWithin}
-use Rattle.pt_engine.specs.Session.{StopsOpening}
+use Rattle.pt_engine.specs.Causes.{IsCaused, NoneRose}
+use Rattle.pt_engine.specs.Endings.{IfDamaged, ending_of}
 use Rattle.pt_engine.specs.Input.{StopsTaking, TakesOnly}
-use Rattle.pt_engine.specs.Saying.{StandsFirst}
-use Rattle.pt_engine.specs.Run.{IfDamaged, IsComplete, IsDamage, StandsAt, TellsDamage}
+use Rattle.pt_engine.specs.Kept.{IsInOrder, KeepsInOrder, StandsAfter, StandsKeeping}
 use Rattle.pt_engine.specs.Parts.{IsRun, StandsTaken}
+use Rattle.pt_engine.specs.Run.{IsComplete, StandsAt, TellsDamage}
+use Rattle.pt_engine.specs.Saying.{StandsFirst}
+use Rattle.pt_engine.specs.Session.{StandsOver}
 use Rattle.pt_engine.proofs.AnswerLemmas.{says_whole, says_up_to}
+use Rattle.pt_engine.proofs.SessionLemmas.{over_same, session_same}
 
 -- what holds of a run holds from before the directory was entered
 pub entered_in_order : (db : Db) (dir : List ℕ) (old w new : World) → w ≡ after_enter dir old
@@ -32,18 +44,15 @@ entered_in_order db dir old w new is headline held =
     let run = subst (λ (u : World). HoldsIn (shown u.now.fs) db → KeepsInOrder db (statements u.input) u new) is headline held in
     record { added = run.added; grows = run.grows; each = run.each }
 
-pub entered_damage : (ending : Ending) (dir : List ℕ) (old new : World) → TellsDamage ending (after_enter dir old) new → TellsDamage ending old new
-entered_damage ending dir old new tells = record { damage = go ending tells.damage; opened = tells.opened }
-  where
-    go : (e : Ending) → IfDamaged e (λ name place. IsDamage name place (after_enter dir old) new) → IfDamaged e (λ name place. IsDamage name place old new)
-    go (Damaged name place) h = record { bad = h.bad; none = h.none; said = h.said; others = record { added = h.others.added; grows = h.others.grows; each = h.others.each } }
-    go Done h = h
-    go Usage h = h
-    go DiskFault h = h
-    go NoMemory h = h
-    go InputFault h = h
-    go OutputFault h = h
-    go TooLong h = h
+entered_damage : (ending : Ending) (dir : List ℕ) (old new : World) → TellsDamage ending (after_enter dir old) new → TellsDamage ending old new
+entered_damage (Damaged name place) dir old new h = record { none = h.none; bad = h.bad }
+entered_damage Done dir old new h = h
+entered_damage Usage dir old new h = h
+entered_damage DiskFault dir old new h = h
+entered_damage NoMemory dir old new h = h
+entered_damage InputFault dir old new h = h
+entered_damage OutputFault dir old new h = h
+entered_damage TooLong dir old new h = h
 
 entered_stands : (db : Db) (ending : Ending) (dir : List ℕ) (old new : World) → (ending ≡ Usage → ⊥) → StandsAt db ending (after_enter dir old) new → StandsAt db ending old new
 entered_stands db Done dir old new formed h = record { taken = h.taken; within = h.within; stands = h.stands }
@@ -108,43 +117,60 @@ module _ (db : Db) (statements : List (List ℕ)) where
   in_order_then old w new said first then =
       since_then old w new _ first (subst (λ before. Since w new (λ m. EachImage m.fs (IsInOrder db statements before m.said))) said then)
 
+-- at rest it holds in each image what it shows
+pub rest_holds : (fs : Fs) (db : Db) → IsAtRest fs → HoldsIn (shown fs) db → EachImage fs (λ files. HoldsIn files db)
+rest_holds fs db rest held files image = record { map = held.map; left = at_rest_left fs held.map rest held.left files image; holds = held.holds }
+
+-- # Damage
+
+-- a directory that holds a database isn't damaged
+damage_excludes : (files : Files) (db : Db) (name : List ℕ) (place : ℕ) → HoldsIn files db → IsDamaged files name place → ⊥
+damage_excludes files db name place held (Whole is none) = none held.map held.left
+damage_excludes files db name place held (File map left bad) = bad_excludes (by_name map) db name place (subst (λ m. Holds (by_name m) db) (left_once files held.map map held.left left) held.holds) bad
+
+-- what is told of damage, where a database that was held excludes it
+pub tells_damage : (ending : Ending) (old new : World) → IfDamaged ending (IsDamaged (shown new.now.fs)) → ((db : Db) → HoldsIn (shown old.now.fs) db → StandsAt db ending old new) → TellsDamage ending old new
+tells_damage (Damaged name place) old new bad stands = record { none = stands; bad = bad }
+tells_damage Done old new bad stands = tt
+tells_damage Usage old new bad stands = tt
+tells_damage DiskFault old new bad stands = tt
+tells_damage NoMemory old new bad stands = tt
+tells_damage InputFault old new bad stands = tt
+tells_damage OutputFault old new bad stands = tt
+tells_damage TooLong old new bad stands = tt
+
 -- # The opening
 
--- what stands where it stopped
-pub stands_opening : (db : Db) (ending : Ending) (files later : Files) (old new : World) → StopsOpening ending files later → HoldsIn files db
-    → new.now.said ≡ old.now.said → EachImage new.now.fs (λ files. HoldsIn files db) → StandsAt db ending old new
-stands_opening db NoMemory files later old new stops held said holds = (0, stands_none db (statements old.input) old.now.said new said holds)
-stands_opening db DiskFault files later old new stops held said holds = (0, keeping_none db (statements old.input) old.now.said new said holds)
-stands_opening db (Damaged name place) files later old new stops held said holds = absurd (stops.1 db held)
-stands_opening db Done files later old new stops held said holds = absurd stops
-stands_opening db Usage files later old new stops held said holds = absurd stops
-stands_opening db InputFault files later old new stops held said holds = absurd stops
-stands_opening db OutputFault files later old new stops held said holds = absurd stops
-stands_opening db TooLong files later old new stops held said holds = absurd stops
+-- Where it stopped, and the files read so before and then.
+module _ (tells : Type 0) (told : tells) (before now : Files) (e : Stop) (bad : IfBad {T = Session} (Err e) (λ name place. tells → IsDamaged before name place × IsDamaged now name place)) where
+  -- damage that is told is there
+  pub opening_damage : IfDamaged (ending_of e) (IsDamaged now)
+  opening_damage = go e bad
+    where
+      go : (s : Stop) → IfBad {T = Session} (Err s) (λ name place. tells → IsDamaged before name place × IsDamaged now name place) → IfDamaged (ending_of s) (IsDamaged now)
+      go stop.NoMemory is = tt
+      go stop.Fault is = tt
+      go (stop.Bad name place) is = (is told).1
 
-unopened : {X : Type 0} → false ≡ true → X
-unopened bad = absurd (cc)
+  -- what stands then
+  pub stands_opening : (db : Db) (old new : World) → HoldsIn before db → new.now.said ≡ old.now.said → EachImage new.now.fs (λ files. HoldsIn files db) → StandsAt db (ending_of e) old new
+  stands_opening db old new held said holds = go e bad
+    where
+      go : (s : Stop) → IfBad {T = Session} (Err s) (λ name place. tells → IsDamaged before name place × IsDamaged now name place) → StandsAt db (ending_of s) old new
+      go stop.NoMemory is = (0, stands_none db (statements old.input) old.now.said new said holds)
+      go stop.Fault is = (0, keeping_none db (statements old.input) old.now.said new said holds)
+      go (stop.Bad name place) is = damage_excludes before db name place held (is told).0
 
--- no damage is told of a fault of the directory, or of want of memory
-pub tells_fault : (old new : World) → TellsDamage DiskFault old new
-tells_fault old new = record { damage = tt; opened = unopened }
+-- its cause
+pub caused_opening : (e : Stop) (old new : Counts) → IsCounted {T = Session} old new (Err e) → IsCaused old new (ending_of e)
+caused_opening stop.NoMemory old new counted = counted
+caused_opening stop.Fault old new counted = counted
+caused_opening (stop.Bad name place) old new counted = counted
 
-tells_memory : (old new : World) → TellsDamage NoMemory old new
-tells_memory old new = record { damage = tt; opened = unopened }
-
--- what is told of damage where it stopped
-pub tells_opening : (ending : Ending) (old new : World) → IsQuiet old new (AsBeforeBut old.now.fs shadow_name) → StopsOpening ending (shown old.now.fs) (shown new.now.fs) → TellsDamage ending old new
-tells_opening NoMemory old new quiet stops = tells_memory old new
-tells_opening DiskFault old new quiet stops = tells_fault old new
-tells_opening (Damaged name place) old new quiet stops = record {
-  damage = record { bad = stops.0; none = stops.1; said = quiet.said; others = since_weaken old new _ _ (λ m h. h.1) quiet.since };
-  opened = unopened;
-}
-tells_opening Done old new quiet stops = absurd stops
-tells_opening Usage old new quiet stops = absurd stops
-tells_opening InputFault old new quiet stops = absurd stops
-tells_opening OutputFault old new quiet stops = absurd stops
-tells_opening TooLong old new quiet stops = absurd stops
+pub formed_opening : (e : Stop) → ending_of e ≡ Usage → ⊥
+formed_opening stop.NoMemory same = let bad : NoMemory ≡ Usage = same in cc
+formed_opening stop.Fault same = let bad : DiskFault ≡ Usage = same in cc
+formed_opening (stop.Bad name place) same = let bad : Damaged name place ≡ Usage = same in cc
 
 -- # The statements
 
@@ -170,27 +196,16 @@ stands_at db Usage too_long old new stands excess taken = absurd stands
 stands_at db (Damaged name place) too_long old new stands excess taken = absurd stands
 stands_at db InputFault too_long old new stands excess taken = absurd stands
 
--- where the directory holds a database, a run that answered what was taken tells of no damage
-pub tells_taken : (ending : Ending) (too_long : Bool) (statements : List (List ℕ)) (before : List ℕ) (session db : Db) (old new : World) → StandsTaken ending too_long session statements before new → HoldsIn (shown old.now.fs) db → TellsDamage ending old new
-tells_taken Done too_long statements before session db old new stands held = record { damage = tt; opened = λ opened. (db, held) }
-tells_taken TooLong too_long statements before session db old new stands held = record { damage = tt; opened = λ opened. (db, held) }
-tells_taken OutputFault too_long statements before session db old new stands held = record { damage = tt; opened = λ opened. (db, held) }
-tells_taken NoMemory too_long statements before session db old new stands held = tells_memory old new
-tells_taken DiskFault too_long statements before session db old new stands held = tells_fault old new
-tells_taken Usage too_long statements before session db old new stands held = absurd stands
-tells_taken (Damaged name place) too_long statements before session db old new stands held = absurd stands
-tells_taken InputFault too_long statements before session db old new stands held = absurd stands
-
--- nor does one whose input could not be taken
-pub tells_stopped : (ending : Ending) (db : Db) (old w new : World) → StopsTaking ending w new → HoldsIn (shown old.now.fs) db → TellsDamage ending old new
-tells_stopped InputFault db old w new stops held = record { damage = tt; opened = λ opened. (db, held) }
-tells_stopped NoMemory db old w new stops held = tells_memory old new
-tells_stopped Done db old w new stops held = absurd stops
-tells_stopped TooLong db old w new stops held = absurd stops
-tells_stopped OutputFault db old w new stops held = absurd stops
-tells_stopped DiskFault db old w new stops held = absurd stops
-tells_stopped Usage db old w new stops held = absurd stops
-tells_stopped (Damaged name place) db old w new stops held = absurd stops
+-- it tells of no damage
+pub stopped_damage : (ending : Ending) (w new : World) (P : List ℕ → ℕ → Type 0) → StopsTaking ending w new → IfDamaged ending P
+stopped_damage InputFault w new P stops = tt
+stopped_damage NoMemory w new P stops = tt
+stopped_damage Done w new P stops = tt
+stopped_damage TooLong w new P stops = tt
+stopped_damage OutputFault w new P stops = tt
+stopped_damage DiskFault w new P stops = tt
+stopped_damage Usage w new P stops = tt
+stopped_damage (Damaged name place) w new P stops = absurd stops
 
 -- it took of the input alone
 pub stops_only : (ending : Ending) (w new : World) → StopsTaking ending w new → TakesOnly w new
@@ -210,16 +225,27 @@ idle_taken w v only = subst (λ (u : World). IsIdle w u) (sym only)
 
 -- # The directory is opened, and then the input taken
 
-module _ (db : Db) (old w : World) (rest : IsAtRest old.now.fs) (held : HoldsIn (shown old.now.fs) db) (left : EachImage old.now.fs (IsLeft held.0) → IsQuiet old w (IsLeft held.0)) where
+-- the session goes on over its map
+pub opened_over : (session : Session) (old w v : World) → IsOpened session old w → TakesOnly w v → StandsOver session v
+opened_over session old w v opened only = over_same session w v (ap (λ u. u.now.fs) only) (ap (λ u. u.dir) only) (record { map = opened.map; store = opened.store; over = opened.over })
+
+module _ (db : Db) (old w : World) (rest : IsAtRest old.now.fs) (held : HoldsIn (shown old.now.fs) db) (clears : OnlyClears old w) where
   -- the opening keeps it
   pub opened_quiet : IsQuiet old w (λ files. HoldsIn files db)
-  opened_quiet = quiet_weaken old w _ _ (λ files is. (held.0, is, held.2)) (left (at_rest_left old.now.fs held.0 rest held.1))
+  opened_quiet = quiet_weaken old w (IsLeft held.map) _ (λ files is. record { map = held.map; left = is; holds = held.holds }) (clears.map held.map (at_rest_left old.now.fs held.map rest held.left))
+
+  -- and stands for it
+  pub opened_session : (session : Session) (v : World) → IsSound old.now.fs → IsOpened session old w → TakesOnly w v → IsSession session db v
+  opened_session session v sound opened only =
+      let same = left_once (shown old.now.fs) held.map opened.map held.left (shown_has old.now.fs (IsLeft opened.map) sound opened.left) in
+      session_same session db w v (ap (λ u. u.now.fs) only) (ap (λ u. u.dir) only)
+      (record { map = opened.map; store = opened.store; is = opened.stands db (subst (λ m. Holds (by_name m) db) same held.holds) })
 
   module _ (v : World) (only : TakesOnly w v) where
-    pub taken_said : v.now.said ≡ old.now.said
+    taken_said : v.now.said ≡ old.now.said
     taken_said = ap (λ u. u.now.said) only ∙ opened_quiet.said
 
-    pub taken_holds : EachImage v.now.fs (λ files. HoldsIn files db)
+    taken_holds : EachImage v.now.fs (λ files. HoldsIn files db)
     taken_holds = subst (λ (fs : Fs). EachImage fs (λ files. HoldsIn files db)) (sym (ap (λ u. u.now.fs) only)) opened_quiet.now
 
     pub taken_in_order : KeepsInOrder db (statements old.input) old v
@@ -242,21 +268,18 @@ module _ (db : Db) (old w : World) (rest : IsAtRest old.now.fs) (held : HoldsIn 
     stands_stopped (Damaged name place) stops = absurd stops
 
     -- the statements were answered
-    module _ (session : Db) (pieces : List (List ℕ)) (opened : HoldsIn (shown old.now.fs) session) (are : pieces ≡ statements w.input) where
-      same_db : session ≡ db
-      same_db = one_held (shown old.now.fs) session db opened held
-
+    module _ (pieces : List (List ℕ)) (are : pieces ≡ statements w.input) where
       same_pieces : pieces ≡ statements old.input
       same_pieces = are ∙ ap statements opened_quiet.input
 
-      pub answered_in_order : (new : World) → KeepsInOrder session pieces v new → KeepsInOrder db (statements old.input) old new
-      answered_in_order new then = in_order_then db (statements old.input) old v new taken_said taken_in_order (rw (← same_db, ← same_pieces) then)
+      pub answered_in_order : (new : World) → KeepsInOrder db pieces v new → KeepsInOrder db (statements old.input) old new
+      answered_in_order new then = in_order_then db (statements old.input) old v new taken_said taken_in_order (subst (λ ps. KeepsInOrder db ps v new) same_pieces then)
 
-      pub answered_idle : (new : World) → (ChangesNothing session pieces → IsIdle v new) → ChangesNothing db (statements old.input) → IsIdle v new
-      answered_idle new idle none = idle (subst (λ d. ChangesNothing d pieces) (sym same_db) (subst (λ ps. ChangesNothing db ps) (sym same_pieces) none))
+      pub answered_idle : (new : World) → (ChangesNothing db pieces → IsIdle v new) → ChangesNothing db (statements old.input) → IsIdle v new
+      answered_idle new idle none = idle (subst (λ ps. ChangesNothing db ps) (sym same_pieces) none)
 
-      pub answered_stands : (ending : Ending) (too_long : Bool) (new : World) → StandsTaken ending too_long session pieces v.now.said new → StandsTaken ending too_long db (statements old.input) old.now.said new
-      answered_stands ending too_long new stands = rw (← same_db, ← same_pieces, ← taken_said) stands
+      pub answered_stands : (ending : Ending) (too_long : Bool) (new : World) → StandsTaken ending too_long db pieces v.now.said new → StandsTaken ending too_long db (statements old.input) old.now.said new
+      answered_stands ending too_long new stands = rw (← same_pieces, ← taken_said) stands
 
 -- # Completeness
 

@@ -35,3 +35,14 @@ abbrev pub ending_of : Stop → Ending
 ending_of stop.NoMemory = NoMemory
 ending_of stop.Fault = DiskFault
 ending_of (stop.Bad name place) = Damaged name place
+
+-- what holds where damage is the ending
+abbrev pub IfDamaged : Ending → (List ℕ → ℕ → Type 0) → Type 0
+IfDamaged (Damaged name place) P = P name place
+IfDamaged Done P = Unit {0}
+IfDamaged TooLong P = Unit {0}
+IfDamaged InputFault P = Unit {0}
+IfDamaged OutputFault P = Unit {0}
+IfDamaged NoMemory P = Unit {0}
+IfDamaged DiskFault P = Unit {0}
+IfDamaged Usage P = Unit {0}

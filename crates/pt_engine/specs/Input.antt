@@ -1,12 +1,12 @@
 -- What is taken of the input.
 use Rattle.std.specs.Prelude.{◌≡◌, false, List, [], ℕ, ◌++◌}
 use Rattle.pt_host.specs.World.{World}
-use Rattle.pt_engine.specs.declared.script.Script.{Script}
+use Rattle.pt_reading.specs.declared.script.Script.{Script}
 use Rattle.pt_engine.specs.declared.input.Taken.{Taken}
 use Rattle.pt_engine.specs.declared.ending.Ending.{Ending}
 use Rattle.pt_engine.specs.declared.ending.Ending.TheVariants.{NoMemory, InputFault}
-use Rattle.pt_engine.specs.Script.{has_excess, statements, TakesWithin}
-use Rattle.pt_engine.specs.Taking.{IsTaken}
+use Rattle.pt_reading.specs.Script.{has_excess, statements, TakesWithin}
+use Rattle.pt_reading.specs.Taking.{IsTaken}
 
 -- with this much of the input still to come
 abbrev pub with_input : List ℕ → World → World

@@ -2,8 +2,8 @@
 use Rattle.std.specs.Prelude.{◌⊎◌, ℕ, ◌+◌, ◌≤◌, List}
 use Rattle.pt_host.specs.Disk.{Files, EachImage}
 use Rattle.pt_host.specs.World.{World, Since}
-use Rattle.pt_flat.specs.declared.data.Db.{Db}
-use Rattle.pt_table_files.specs.Directory.{HoldsIn}
+use Rattle.pt_ast.specs.declared.database.Db.{Db}
+use Rattle.pt_session.specs.Directory.{HoldsIn}
 use Rattle.pt_engine.specs.Answers.{HoldsAfter, SaysWhole, SaysUpTo}
 
 -- The directory holds the database after the first k statements, where of what was said since then the answers to k - 1 of

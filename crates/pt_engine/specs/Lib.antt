@@ -1,10 +1,5 @@
 pub mod Endings
 pub mod Causes
-pub mod Symbols
-pub mod Reading
-pub mod Reader
-pub mod Script
-pub mod Taking
 pub mod Input
 pub mod Answers
 pub mod Kept

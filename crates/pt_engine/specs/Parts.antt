@@ -3,15 +3,14 @@ use Rattle.std.specs.Prelude.{◌≡◌, ℕ, Bool, true, false, List, length, N
 use Rattle.pt_host.specs.Disk.{shown}
 use Rattle.pt_host.specs.World.{World, IsIdle}
 use Rattle.pt_left.specs.Left.{shadow_name}
-use Rattle.pt_flat.specs.declared.data.Db.{Db}
+use Rattle.pt_ast.specs.declared.database.Db.{Db}
 use Rattle.pt_engine.specs.declared.ending.Ending.{Ending}
 use Rattle.pt_engine.specs.declared.ending.Ending.TheVariants.{Done, DiskFault, NoMemory, OutputFault, TooLong}
 use Rattle.pt_engine.specs.declared.input.Taken.{Taken}
 use Rattle.pt_engine.specs.Answers.{ChangesNothing}
-use Rattle.pt_engine.specs.Script.{statements}
-use Rattle.pt_table_files.specs.Directory.{HoldsIn}
+use Rattle.pt_reading.specs.Script.{statements}
+use Rattle.pt_session.specs.Directory.{HoldsIn}
 use Rattle.pt_engine.specs.Kept.{KeepsInOrder, StandsAfter, StandsKeeping, StandsSaying}
-use Rattle.pt_engine.specs.Saying.{EntersNothing}
 use Rattle.pt_engine.specs.Run.{StandsAt, TellsDamage}
 
 -- All that a run over a directory tells, but for the directory that it enters.
@@ -32,7 +31,6 @@ StandsTaken _ too_long db statements before new = ⊥
 
 -- What was taken of the input was answered, to its end or in part.
 pub record AnswersTaken (ending : Ending) (db : Db) (taken : Taken) (old new : World) : Type 0 where
-  pub only : EntersNothing old new
   pub in_order : KeepsInOrder db taken.statements old new
   pub idle : ChangesNothing db taken.statements → IsIdle old new
   pub stands : StandsTaken ending taken.too_long db taken.statements old.now.said new

@@ -1,40 +1,37 @@
--- A session: the store of a directory, and the database that it holds.
-use Rattle.std.specs.Prelude.{◌≡◌, ◌⊎◌, ℕ, List, ◌++◌, IsTrue}
+-- What a session stands for while statements are answered.
+use Rattle.std.specs.Prelude.{◌≡◌, ◌⊎◌, ℕ, List, ◌++◌, Result, Ok, Err}
 use Rattle.pt_host.specs.Listed.{FileList, by_name}
 use Rattle.pt_host.specs.Disk.{Files, shown}
 use Rattle.pt_host.specs.World.{World}
-use Rattle.pt_store.specs.Store.{is_live, IsStore}
-use Rattle.pt_flat.specs.declared.data.Db.{Db}
-use Rattle.pt_flat.specs.Sound.{IsSound}
-use Rattle.pt_table_files.specs.Holds.{Holds}
-use Rattle.pt_engine.specs.declared.session.Session.{Session}
+use Rattle.pt_store.specs.Store.{IsStore}
+use Rattle.pt_ast.specs.declared.database.Db.{Db}
+use Rattle.pt_session.specs.declared.session.Session.{Session}
+use Rattle.pt_session.specs.Session.{IsOver}
+use Rattle.pt_session.specs.Directory.{HoldsIn, IsDamaged}
 use Rattle.pt_engine.specs.declared.ending.Ending.{Ending}
-use Rattle.pt_engine.specs.declared.ending.Ending.TheVariants.{DiskFault, NoMemory, Damaged}
-use Rattle.pt_table_files.specs.Directory.{HoldsIn, HoldsNone, Bad}
+use Rattle.pt_engine.specs.Endings.{IfDamaged}
 
--- what holds of each session that hasn't failed
-pub record IsOpen (session : Session) : Type 0 where
-  pub live : IsTrue (is_live session.store)
-  pub sound : IsSound session.db
-
--- The session stands for its database over this host: each image holds it.
-pub record IsSession (session : Session) (w : World) : Type 0 where
+-- Its store stands for a map over this host, and it has the definitions and the next serial of that map. (The map holds a database,
+-- or a file of it that wasn't read yet is damaged.)
+pub record StandsOver (session : Session) (w : World) : Type 0 where
   pub map : FileList
   pub store : IsStore session.store map w
-  pub holds : Holds (by_name map) session.db
+  pub over : IsOver session (by_name map)
 
--- A session was opened: it stands for the database that the directory held.
-pub record IsOpened (old new : World) (session : Session) : Type 0 where
-  pub held : HoldsIn (shown old.now.fs) session.db
-  pub stands : IsSession session new
+-- So it does after a part of a run that may go on, and a file that is told to be damaged is. Nothing is told of another ending.
+abbrev pub StaysOver : {T : Type 0} → Session → World → Result T Ending → Type 0
+StaysOver after new (Ok x) = StandsOver after new
+StaysOver after new (Err ending) = IfDamaged ending (IsDamaged (shown new.now.fs))
 
--- Where it isn't opened, and the files read so before and then: memory was wanting, the directory failed, or there is damage,
--- then and before.
-abbrev pub StopsOpening : Ending → Files → Files → Type 0
-StopsOpening NoMemory before now = Unit {0}
-StopsOpening DiskFault before now = Unit {0}
-StopsOpening (Damaged name place) before now = Bad now name place × HoldsNone before
-StopsOpening _ before now = ⊥
+-- nothing is entered, and nothing taken
+pub record EntersNothing (old new : World) : Type 0 where
+  pub dir : new.dir ≡ old.dir
+  pub input : new.input ≡ old.input
+
+-- What statements leave whether or not a database is held.
+pub record GoesOn {T : Type 0} (after : Session) (old new : World) (result : Result T Ending) : Type 0 where
+  pub only : EntersNothing old new
+  pub over : StaysOver after new result
 
 -- Within one statement: the database before it with nothing of its answer said, or the one after it with a part of it said.
 abbrev pub IsWithin : Db → Db → List ℕ → List ℕ → List ℕ → Files → Type 0

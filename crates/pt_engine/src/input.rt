@@ -1,12 +1,12 @@
-ghost use Rattle.std.specs.Prelude.{IfOk, IfErr};
+ghost use Rattle.std.specs.Prelude.{◌≤◌, ◌^◌, All, IfOk, IfErr, length};
 ghost use Rattle.pt_engine.specs.Causes.{HasCauses};
 ghost use Rattle.pt_engine.specs.Input.{StopsTaking, TakesScript};
 
 use crate::Ending;
-use crate::script::Script;
-use pt_flat::Bin;
 use pt_host::Host;
 use pt_plain::List;
+use pt_reading::Script;
+use pt_value::Bin;
 use std::alloc::Global;
 
 /// What was taken of the input.
@@ -20,6 +20,7 @@ pub(crate) struct Taken {
 
 /// Takes the input to its end, or to the first byte that passes a limit.
 pub(crate) fn take_script<H: Host>(alloc: Global, host: &mut H) -> Result<Taken, Ending>
+    ensures short { IfOk result (λ taken. All (λ piece. length piece ≤ 2 ^ 20) taken.statements) }
     ensures ok { IfOk result (λ taken. H.tells → TakesScript (H.world host.old) (H.world host.new) taken) }
     ensures err { IfErr result (λ ending. H.tells → StopsTaking ending (H.world host.old) (H.world host.new)) }
     ensures counts { HasCauses (H.counts host.old) (H.counts host.new) result }

@@ -7,25 +7,24 @@
 //!   clause `headline`; `KeepsInOrder` of `specs/Kept.antt`).
 //! - What is printed and held at each ending (`stands`), when each ending comes (`usage`, `causes`, `damage`, `complete`), and
 //!   that no other directory is entered (`dir`).
-//! - A piece spells one statement at most (`one_reading`). That a directory holds one database at most is a law of
-//!   `pt_table_files`.
+//! - A script of statements that leave the database as it is writes and syncs nothing (`idle`).
 //!
-//! `symbols` and `reader` read a piece, `script` cuts the input, `input` takes it, `session` opens the directory and keeps a
-//! database in it, `answers` answers statement by statement, `program` is the top call, `ending` the status and the line.
+//! A damaged file is told when it is read: a definition or the counter when the directory is opened, a row file by the statement
+//! that reads it. Then the directory held no database, and nothing else is promised of it.
 //!
-//! It stands on `pt_store`, `pt_left` and `pt_table_files` for the directory, `pt_flat` for the model, `pt_host` and
-//! `pt_plain`, and on `itoa`.
+//! `input` takes the script, `answers` reads and answers it statement by statement, `executing` hands a statement to the crate of
+//! its kind (`execute`, which tells what `pt_session` calls `Tells`), `program` is the top call, `ending` the status and the line.
+//!
+//! It stands on `pt_reading` for the script, on `pt_session` for the directory, on `pt_alter`, `pt_dml` and `pt_select` for the
+//! statements, on `pt_step` for what they mean, and on `itoa`.
 #![tactic(auto)]
 
 mod answers;
 mod ending;
+mod executing;
 mod input;
 mod program;
-mod reader;
-mod script;
-mod session;
-mod symbols;
 
 pub use ending::{Ending, code, line};
+pub use executing::execute;
 pub use program::run;
-pub use reader::one_reading;

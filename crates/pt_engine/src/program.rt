@@ -1,24 +1,26 @@
-ghost use Rattle.std.specs.Prelude.{◌≡◌, ◌⊎◌, ◌≢◌, ◌↔◌, Some, None, IsSome, map};
+ghost use Rattle.std.specs.Prelude.{◌≡◌, ◌⊎◌, ◌≢◌, ◌↔◌, ◌≤◌, ◌^◌, All, Some, None, IsSome, length, map};
 ghost use Rattle.std.specs.Option.{option_copied};
 ghost use Rattle.std.specs.String.{string_bytes};
 ghost use Rattle.pt_host.specs.Disk.{IsAtRest, shown};
-ghost use Rattle.pt_flat.specs.declared.data.Db.{Db};
-ghost use Rattle.pt_engine.specs.Causes.{IsCaused, NoneRose};
 ghost use Rattle.pt_host.specs.World.{IsIdle};
 ghost use Rattle.pt_left.specs.Left.{shadow_name};
+ghost use Rattle.pt_ast.specs.declared.database.Db.{Db};
+ghost use Rattle.pt_reading.specs.Script.{has_excess, statements};
+ghost use Rattle.pt_session.specs.Directory.{HoldsIn, IsDamaged};
+ghost use Rattle.pt_session.specs.Session.{IsOpen, IsSession};
 ghost use Rattle.pt_engine.specs.Answers.{ChangesNothing};
-ghost use Rattle.pt_engine.specs.Script.{has_excess, statements};
-ghost use Rattle.pt_table_files.specs.Directory.{HoldsIn};
+ghost use Rattle.pt_engine.specs.Causes.{IsCaused, NoneRose};
+ghost use Rattle.pt_engine.specs.Endings.{IfDamaged};
 ghost use Rattle.pt_engine.specs.Kept.{KeepsInOrder};
-ghost use Rattle.pt_engine.specs.Session.{IsOpen, IsSession};
-ghost use Rattle.pt_engine.specs.Run.{dir_of, IsComplete, StandsAt, TellsDamage};
 ghost use Rattle.pt_engine.specs.Parts.{AnswersTaken, IsRun};
+ghost use Rattle.pt_engine.specs.Run.{dir_of, IsComplete, StandsAt, TellsDamage};
+ghost use Rattle.pt_engine.specs.Session.{EntersNothing, StandsOver};
 
 use crate::Ending;
 use crate::answers::answer_all;
 use crate::input::{Taken, take_script};
-use crate::session::Session;
 use pt_host::Host;
+use pt_session::Session;
 use std::alloc::Global;
 
 /// All that the program does. `words` are those of the command line after the program's name: `run DIR` is the one form.
@@ -82,7 +84,7 @@ fn run_entered<H: Host>(alloc: Global, host: &mut H) -> Ending
 {
     let mut session = match Session::begin(alloc, host) {
         Ok(session) => session,
-        Err(ending) => return ending,
+        Err(stop) => return Ending::from(stop),
     };
     match take_script(alloc, host) {
         Err(ending) => ending,
@@ -98,10 +100,13 @@ fn answer_taken<H: Host>(
     taken: &Taken,
 ) -> Ending
     requires open { IsOpen session.old }
-    requires stands { H.tells → IsSession session.old (H.world host.old) }
+    requires short { All (λ piece. length piece ≤ 2 ^ 20) taken.now.statements }
+    requires stands { H.tells → StandsOver session.old (H.world host.old) }
     ensures causes { IsCaused (H.counts host.old) (H.counts host.new) result }
     ensures formed { result ≢ Ending.Usage }
-    ensures told { H.tells → AnswersTaken result session.old.db taken.now (H.world host.old) (H.world host.new) }
+    ensures told { H.tells → (db : Db) → IsSession session.old db (H.world host.old) → AnswersTaken result db taken.now (H.world host.old) (H.world host.new) }
+    ensures only { H.tells → EntersNothing (H.world host.old) (H.world host.new) }
+    ensures damage { H.tells → IfDamaged result (IsDamaged (shown (H.world host.new).now.fs)) }
 {
     match answer_all(alloc, host, session, taken.statements.items()) {
         Err(ending) => ending,

@@ -1,12 +1,11 @@
 //! What each word asks.
 use crate::endings::{ending_of, ending_text};
-use crate::faults::{calls_text, fault_text, shadowed_trial_of, trial_of};
-use crate::files::{directory_of, files_text, last_length, map_of, no_files};
+use crate::faults::{Asked, calls_text, fault_text, shadowed_trial_of, trial_of};
+use crate::files::{directory_of, files_text, held_text, last_length, map_of, no_files};
 use crate::model::{model_text, syntax_text};
 use crate::running::{Fault, refused_text, run_text, words_text};
 use crate::stops::stops_text;
 use crate::text::bytes_of;
-use pt_flat::is_word_byte;
 use pt_host::Image;
 use std::alloc::{AllocError, Global};
 
@@ -15,7 +14,7 @@ pub fn answer(alloc: Global, standing: &mut Image, text: &str) -> Result<String,
     let (word, rest) = text.split_once(' ').unwrap_or((text, ""));
     match word {
         "" | "#" => String::from_str(alloc, text),
-        "run" | "again" | "spaces" | "refused" | "files" | "map" | "shows" => {
+        "run" | "again" | "spaces" | "refused" | "files" | "map" | "shows" | "holds" => {
             standing_text(alloc, standing, word, rest)
         }
         "fault" | "fuse" | "stops" | "shadowed" | "calls" => trial_text(alloc, word, rest),
@@ -41,6 +40,7 @@ fn standing_text(
         "refused" => refused_text(alloc, standing, &bytes_of(alloc, rest)?),
         "files" => begin_with(alloc, standing, directory_of(alloc, rest)?),
         "map" => begin_with_map(alloc, standing, map_of(alloc, rest)?),
+        "holds" => held_text(alloc, standing, rest),
         _ => files_text(alloc, standing.files.items()),
     }
 }
@@ -90,9 +90,9 @@ fn begin_with_map(
 /// A line that runs a script with calls that fail.
 fn trial_text(alloc: Global, word: &str, rest: &str) -> Result<String, AllocError> {
     match word {
-        "stops" => stops_text(alloc, &trial_of(alloc, rest)?),
-        "shadowed" => stops_text(alloc, &shadowed_trial_of(alloc, rest)?),
-        "calls" => calls_text(alloc, &trial_of(alloc, rest)?),
+        "stops" => stops_text(alloc, &trial_of(alloc, rest, Asked::All)?),
+        "shadowed" => stops_text(alloc, &shadowed_trial_of(alloc, rest, Asked::All)?),
+        "calls" => calls_text(alloc, &trial_of(alloc, rest, Asked::Rows)?),
         _ => faulty_text(alloc, word, rest),
     }
 }
@@ -104,16 +104,15 @@ fn faulty_text(alloc: Global, word: &str, rest: &str) -> Result<String, AllocErr
         "fault" => Fault::At(number),
         _ => Fault::From(number),
     };
-    fault_text(alloc, &trial_of(alloc, rest)?, fault)
+    fault_text(alloc, &trial_of(alloc, rest, Asked::Rows)?, fault)
 }
 
 /// A line that is answered by itself.
 fn plain_text(alloc: Global, word: &str, rest: &str) -> Result<String, AllocError> {
     match word {
         "words" => words_text(alloc, &no_files(alloc)?, rest),
-        "model" => model_text(alloc, rest),
+        "model" => model_text(alloc, &bytes_of(alloc, rest)?),
         "syntax" => syntax_text(alloc, rest.parse::<u64>().unwrap_or(0)),
-        "wordbytes" => word_bytes_text(alloc, &bytes_of(alloc, rest)?),
         "ending" => match ending_of(rest) {
             None => wrong_line(alloc),
             Some(ending) => ending_text(alloc, &ending),
@@ -123,15 +122,8 @@ fn plain_text(alloc: Global, word: &str, rest: &str) -> Result<String, AllocErro
     }
 }
 
-fn word_bytes_text(alloc: Global, bytes: &[u8]) -> Result<String, AllocError> {
-    let mut text = String::new(alloc);
-    for byte in bytes {
-        text.push(if is_word_byte(*byte) { 'y' } else { 'n' })?;
-    }
-    Ok(text)
-}
-
 fn laws_text(alloc: Global) -> Result<String, AllocError> {
-    pt_engine::one_reading();
+    pt_reading::all_statements();
+    pt_reading::one_reading();
     String::from_str(alloc, "called")
 }

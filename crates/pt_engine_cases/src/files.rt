@@ -78,6 +78,15 @@ pub fn files_text(alloc: Global, files: &[(Name, List<u8>)]) -> Result<String, A
     Ok(text)
 }
 
+/// Whether the directory is the one whose one file spells the map of the files that words write.
+pub fn held_text(alloc: Global, directory: &Image, words: &str) -> Result<String, AllocError> {
+    let held = match map_of(alloc, words)? {
+        None => false,
+        Some(map) => map.files == directory.files,
+    };
+    String::from_str(alloc, if held { "held" } else { "not held" })
+}
+
 /// The directory with one more file, a shadow as a run leaves it that is stopped.
 pub fn shadowed(alloc: Global, directory: Image) -> Result<Image, AllocError> {
     let Image { files } = directory;

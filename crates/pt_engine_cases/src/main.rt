@@ -17,10 +17,11 @@
 //! | `map NAME=BYTES ..` | it has one file, `whole.map`, which spells the map of these files | its length |
 //! | `refused SCRIPT` | as `again`, but the directory stands as it was | also how many bytes were written, and whether a stop leaves the files as they were |
 //! | `shows` | nothing | the files, with their lengths |
+//! | `holds NAME=BYTES ..` | nothing | `held` where the directory has one file, `whole.map`, which spells the map of these files, else `not held` |
 //!
 //! Calls that fail. TABLES are names with commas between. `FIRST |` may be left out. The script, behind a space, is run over
 //! the directory that FIRST leaves, which was run over an empty one. What the tables show is what a next run answers to
-//! `SELECT * FROM` each of them.
+//! `SELECT * FROM` each of them, and for `stops` and `shadowed` to `SHOW CREATE TABLE` before it.
 //!
 //! | Line | What is done | What is printed |
 //! |---|---|---|
@@ -48,15 +49,12 @@
 //! | `words WORD ..` | the ending of a run with these words over an empty directory and an input of one CREATE, and how many calls it made |
 //! | `model SCRIPT` | the code and the text of each answer of the model |
 //! | `syntax N` | the same of the N-th piece, where it spells no statement |
-//! | `wordbytes BYTES` | whether each byte may stand in a word, `y` or `n` |
 //! | `ending NAME` | the ending's status and line, how long the line is, and how many of 192 bytes stay behind it; `ending Damaged FILE PLACE` |
-//! | `laws` | that the two functions whose contracts are laws of the engine were called |
+//! | `laws` | that the functions whose contracts are laws of readings were called |
 //!
-//! For `model`, `stops` and `shadowed` the program reads the statements by itself, in the one form `CREATE TABLE t (c INT)`,
-//! `INSERT INTO t VALUES (7)`, `SELECT * FROM t`; all else counts as no statement.
-//!
-//! It stands on `pt_engine`, on `pt_memhost` and `pt_dirhost` for the hosts, on `pt_flat` for the model, and on `pt_host` and `pt_plain`. A
-//! program proves its own safety; what it shows are its lines.
+//! It stands on `pt_engine`, on `pt_memhost` and `pt_dirhost` for the hosts, on `pt_step` for the model and `pt_reading` for what a
+//! statement is read as, on `pt_db`, `pt_ast` and `pt_value` for databases and answers, and on `pt_host` and `pt_plain`. A program proves its
+//! own safety; what it shows are its lines.
 #![tactic(auto)]
 
 mod asking;

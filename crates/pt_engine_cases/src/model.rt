@@ -1,78 +1,101 @@
 //! What the model answers to a script, and what it allows a stop to leave.
-ghost use Rattle.pt_flat.specs.Sound.{IsSound};
+ghost use Rattle.pt_ast.specs.StorableStmt.{IsStorableStmt};
+ghost use Rattle.pt_db.specs.Sound.{IsSound};
+ghost use Rattle.pt_reading.specs.Reading.{IfSpelled};
 
 use crate::text::push_bytes;
-use pt_flat::{Db, Reply, Stmt, Word, step, syntax_reply};
+use pt_ast::{Db, Refusal, Reply, Stmt};
+use pt_db::{empty_db, ok_reply, refusal_reply};
+use pt_plain::List;
+use pt_reading::{Reading, Script, read};
+use pt_step::{is_covered, step};
+use pt_value::Bin;
 use std::alloc::{AllocError, Global};
 
-fn word_at(piece: &str, place: usize) -> Option<&str> {
-    piece.split_whitespace().nth(place)
+/// The most bytes of a piece.
+const MOST_BYTES: usize = 1_048_576;
+
+/// The database without tables.
+#[tactic(auto, using(pt_db::proofs::Sounds::empty_sound))]
+fn begun(alloc: Global) -> Db
+    ensures { IsSound result }
+{
+    empty_db(alloc)
 }
 
-/// The name at a place, without the parentheses beside it.
-fn name_at(piece: &str, place: usize) -> Option<Word> {
-    Word::of(bare(word_at(piece, place)?).as_bytes())
+/// The statements of a script, as bytes.
+fn statements_of(alloc: Global, script: &[u8]) -> Result<List<Bin>, AllocError> {
+    let mut taken = Script::new(alloc);
+    let _ = taken.feed(script)?;
+    taken.end()?;
+    Ok(taken.into_statements())
 }
 
-fn bare(word: &str) -> &str {
-    word.trim_matches('(').trim_matches(')')
-}
-
-/// The statement that a piece writes in the form in which cases write it. `None` where it writes none.
-fn statement_of(piece: &str) -> Option<Stmt> {
-    match word_at(piece, 0)? {
-        "CREATE" => Some(Stmt::Create {
-            table: name_at(piece, 2)?,
-            column: name_at(piece, 3)?,
-        }),
-        "INSERT" => Some(Stmt::Insert {
-            table: name_at(piece, 2)?,
-            value: bare(word_at(piece, 4)?).parse::<i64>().ok()?,
-        }),
-        "SELECT" => Some(Stmt::Select {
-            table: name_at(piece, 3)?,
-        }),
-        _ => None,
-    }
-}
-
-fn is_blank(piece: &str) -> bool {
-    word_at(piece, 0).is_none()
-}
-
-/// The model's answer to the piece of this number.
-fn reply_to(alloc: Global, db: &mut Db, number: u64, piece: &str) -> Result<Reply, AllocError>
+/// The model's answer to the statement of this number.
+fn reply_to(alloc: Global, db: &mut Db, number: u64, piece: &[u8]) -> Result<Reply, AllocError>
     requires { IsSound db.old }
     ensures { IsSound db.new }
 {
-    match statement_of(piece) {
-        None => syntax_reply(alloc, number),
-        Some(stmt) => step(alloc, db, &stmt),
+    if piece.len() > MOST_BYTES {
+        return refusal_reply(alloc, Refusal::Syntax(number));
+    }
+    let reading = read(alloc, piece)?;
+    let reply = read_reply(alloc, db, number, &reading);
+    drop(reading);
+    reply
+}
+
+/// The model's answer to a statement that was read.
+fn read_reply(
+    alloc: Global,
+    db: &mut Db,
+    number: u64,
+    reading: &Reading,
+) -> Result<Reply, AllocError>
+    requires sound { IsSound db.old }
+    requires storable { IfSpelled IsStorableStmt reading.now }
+    ensures { IsSound db.new }
+{
+    match reading {
+        Reading::Spelled(stmt) => stepped(alloc, db, stmt),
+        Reading::Syntax => refusal_reply(alloc, Refusal::Syntax(number)),
+        Reading::TooDeep => refusal_reply(alloc, Refusal::TooDeep(number)),
+        Reading::LongName => refusal_reply(alloc, Refusal::LongName(number)),
     }
 }
 
-/// The model's answers to the statements of a script, which takes its steps.
-fn replies_to(alloc: Global, db: &mut Db, script: &str) -> Result<Vec<Reply>, AllocError>
+/// The model's step. All that is spelled has one.
+fn stepped(alloc: Global, db: &mut Db, stmt: &Stmt) -> Result<Reply, AllocError>
+    requires sound { IsSound db.old }
+    requires storable { IsStorableStmt stmt.now }
+    ensures { IsSound db.new }
+{
+    if is_covered(stmt) {
+        step(alloc, db, stmt)
+    } else {
+        ok_reply(alloc)
+    }
+}
+
+/// The model's answers to statements, which takes its steps.
+fn replies_to(alloc: Global, db: &mut Db, statements: &[Bin]) -> Result<Vec<Reply>, AllocError>
     requires { IsSound db.old }
     ensures { IsSound db.new }
 {
     let mut replies = Vec::new(alloc);
-    let mut number = 0u64;
-    for piece in script.split(';') {
-        if !is_blank(piece) {
-            number = number.saturating_add(1);
-            replies.push(reply_to(alloc, db, number, piece)?)?;
-        }
+    for (i, piece) in statements.iter().enumerate() {
+        replies.push(reply_to(alloc, db, i as u64 + 1, piece.items())?)?;
     }
     Ok(replies)
 }
 
 /// All that the model answers to a script, which takes its steps.
-fn said_to(alloc: Global, db: &mut Db, script: &str) -> Result<Vec<u8>, AllocError>
+fn said_to(alloc: Global, db: &mut Db, script: &[u8]) -> Result<Vec<u8>, AllocError>
     requires { IsSound db.old }
     ensures { IsSound db.new }
 {
-    let replies = replies_to(alloc, db, script)?;
+    let statements = statements_of(alloc, script)?;
+    let replies = replies_to(alloc, db, statements.items())?;
     joined(alloc, &replies)
 }
 
@@ -85,8 +108,9 @@ fn joined(alloc: Global, replies: &[Reply]) -> Result<Vec<u8>, AllocError> {
 }
 
 /// The code and the answer of each statement.
-pub fn model_text(alloc: Global, script: &str) -> Result<String, AllocError> {
-    let replies = replies_to(alloc, &mut Db::empty(alloc), script)?;
+pub fn model_text(alloc: Global, script: &[u8]) -> Result<String, AllocError> {
+    let statements = statements_of(alloc, script)?;
+    let replies = replies_to(alloc, &mut begun(alloc), statements.items())?;
     replies_text(alloc, &replies)
 }
 
@@ -110,7 +134,7 @@ fn push_reply(text: &mut String, reply: &Reply) -> Result<(), AllocError> {
 /// The answer to a piece that spells no statement.
 pub fn syntax_text(alloc: Global, number: u64) -> Result<String, AllocError> {
     let mut text = String::new(alloc);
-    push_reply(&mut text, &syntax_reply(alloc, number)?)?;
+    push_reply(&mut text, &refusal_reply(alloc, Refusal::Syntax(number))?)?;
     Ok(text)
 }
 
@@ -140,7 +164,7 @@ fn next_stage(
     db: &mut Db,
     reply: &[u8],
     before: &[u8],
-    query: &str,
+    query: &[u8],
 ) -> Result<Stage, AllocError>
     requires { IsSound db.old }
     ensures { IsSound db.new }
@@ -157,38 +181,45 @@ fn next_stage(
 /// The stages of a script behind a first one: before its first statement, and at each of them.
 pub fn stages(
     alloc: Global,
-    first: &str,
-    script: &str,
-    query: &str,
+    first: &[u8],
+    script: &[u8],
+    query: &[u8],
 ) -> Result<Vec<Stage>, AllocError> {
-    let mut db = Db::empty(alloc);
+    let statements = statements_of(alloc, script)?;
+    stages_of(alloc, first, statements.items(), query)
+}
+
+/// The same of the statements of the script.
+fn stages_of(
+    alloc: Global,
+    first: &[u8],
+    statements: &[Bin],
+    query: &[u8],
+) -> Result<Vec<Stage>, AllocError> {
+    let mut db = begun(alloc);
     said_to(alloc, &mut db, first)?;
     let mut stages = Vec::new(alloc);
     stages.push(next_stage(alloc, &mut db, b"", b"", query)?)?;
-    push_stages(alloc, &mut db, &mut stages, script, query)?;
+    push_stages(alloc, &mut db, &mut stages, statements, query)?;
     Ok(stages)
 }
 
-/// Adds the stages at the statements of a script.
+/// Adds the stages at statements.
 fn push_stages(
     alloc: Global,
     db: &mut Db,
     stages: &mut Vec<Stage>,
-    script: &str,
-    query: &str,
+    statements: &[Bin],
+    query: &[u8],
 ) -> Result<(), AllocError>
     requires { IsSound db.old }
     ensures { IsSound db.new }
 {
     let mut said = Vec::new(alloc);
-    let mut number = 0u64;
-    for piece in script.split(';') {
-        if !is_blank(piece) {
-            number = number.saturating_add(1);
-            let reply = reply_to(alloc, db, number, piece)?;
-            stages.push(next_stage(alloc, db, reply.bytes(), &said, query)?)?;
-            said.extend_from_slice(reply.bytes())?;
-        }
+    for (i, piece) in statements.iter().enumerate() {
+        let reply = reply_to(alloc, db, i as u64 + 1, piece.items())?;
+        stages.push(next_stage(alloc, db, reply.bytes(), &said, query)?)?;
+        said.extend_from_slice(reply.bytes())?;
     }
     Ok(())
 }

@@ -34,7 +34,7 @@ fn is_allowed(stages: &[Stage], said: &[u8], shown: &[u8]) -> bool {
 /// How many directories a stop may leave now, and how many of them the stages don't allow.
 fn opened(
     alloc: Global,
-    trial: &Trial<'_>,
+    trial: &Trial,
     stages: &[Stage],
     host: &MemHost,
 ) -> Result<(u64, u64), AllocError> {
@@ -51,7 +51,7 @@ fn opened(
 /// The same after a run with this fault.
 fn opened_after(
     alloc: Global,
-    trial: &Trial<'_>,
+    trial: &Trial,
     stages: &[Stage],
     fault: Fault,
     shift: bool,
@@ -63,7 +63,7 @@ fn opened_after(
 /// Adds the runs in which the fault is in this call.
 fn add_runs(
     alloc: Global,
-    trial: &Trial<'_>,
+    trial: &Trial,
     stages: &[Stage],
     number: u64,
     tally: &mut Tally,
@@ -81,14 +81,14 @@ fn add_runs(
 }
 
 /// How many calls a run makes where none fails, with one before it.
-fn calls(alloc: Global, trial: &Trial<'_>) -> Result<u64, AllocError> {
+fn calls(alloc: Global, trial: &Trial) -> Result<u64, AllocError> {
     let (_, host) = trial.host_after(alloc, Fault::Never, true)?;
     Ok(host.calls())
 }
 
 /// The runs of a script with a fault in each call.
-pub fn stops_text(alloc: Global, trial: &Trial<'_>) -> Result<String, AllocError> {
-    let stages = stages(alloc, trial.first, trial.script, trial.query.as_str())?;
+pub fn stops_text(alloc: Global, trial: &Trial) -> Result<String, AllocError> {
+    let stages = stages(alloc, &trial.first, &trial.input, trial.query.as_bytes())?;
     let calls = calls(alloc, trial)?;
     let mut tally = Tally {
         runs: 0,

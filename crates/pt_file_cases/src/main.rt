@@ -1,4 +1,4 @@
-//! Asks the store and the files of tables one question a line, and prints one answer a line.
+//! Asks the store one question a line, and prints one answer a line.
 //!
 //! An empty line and a line that begins with `#` are printed as they stand. BYTES are bytes as they stand, where `%` and two
 //! hexadecimal digits are one, and FILE is `NAME=BYTES`. ACT is `delete:NAME`, `rename:FROM:TO`, `replace:FROM:TO` or
@@ -14,8 +14,6 @@
 //!
 //! | Line | Answer |
 //! |---|---|
-//! | `db CHANGE` | the database by `db_of`, `next N` and each table as `TABLE(COLUMN) SERIAL:VALUE ..`, or `none` |
-//! | `again CHANGE` | the files that `files_of` makes of that database, or `none` |
 //! | `map CHANGE` | the map that a `Store` reads back over these files at rest, or `bad NAME PLACE` |
 //! | `length NAME` | the length that the store tells, or `absent` |
 //! | `left` | how many name operations are pending once a store was attached, and the files that a stop then leaves |
@@ -28,17 +26,10 @@
 //!
 //! | Line without the directory | Answer |
 //! |---|---|
-//! | `column BYTES` | the column by `column_of`, or `none` |
-//! | `definition COLUMN` | the bytes by `definition_of` |
-//! | `rows BYTES` | `SERIAL:VALUE ..` by `rows_of`, or `none` |
-//! | `put SERIAL:VALUE ..` | the bytes by `rows_bytes` |
-//! | `next BYTES` | the next serial by `next_of`, or `none` |
-//! | `counter N` | the bytes by `counter_bytes` |
-//! | `made STEP..` | the files by `files_of` of the database that these steps make: `TABLE=COLUMN` creates, `TABLE+VALUE` inserts |
 //! | `clean ACT..` | whether these acts are a clean chain |
 //! | `laws` | calls the functions whose clauses are theorems |
 //!
-//! It stands on `pt_store`, `pt_ddl_log`, `pt_table_files` and `pt_flat`, and on `pt_memhost` for the host.
+//! It stands on `pt_store`, `pt_ddl_log` and `pt_left`, and on `pt_memhost` for the host.
 #![tactic(auto)]
 
 mod allowed;
@@ -47,7 +38,6 @@ mod faults;
 mod maps;
 mod replacing;
 mod reshaping;
-mod tables;
 mod texts;
 
 use std::alloc::{AllocError, Global};
@@ -86,7 +76,6 @@ fn answer_about(
     line: &str,
 ) -> Result<String, AllocError> {
     match word {
-        "db" | "again" => tables::directory_answer(alloc, directory, word, rest),
         "map" => maps::map_answer(alloc, directory, rest),
         "length" => maps::length_answer(alloc, directory, rest),
         "left" => maps::left_answer(alloc, directory),
@@ -100,7 +89,7 @@ fn answer_about(
         }
         "" => Ok(String::new(alloc)),
         _ if line.starts_with('#') => String::from_str(alloc, line),
-        _ => tables::bytes_answer(alloc, word, rest),
+        _ => String::from_str(alloc, "no word"),
     }
 }
 
@@ -109,6 +98,4 @@ fn laws() {
     pt_ddl_log::in_any_order();
     pt_store::reshapes_by_name();
     pt_left::stands_for_one_map();
-    pt_table_files::one_database();
-    pt_table_files::holds_one_database();
 }

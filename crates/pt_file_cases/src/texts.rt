@@ -22,12 +22,6 @@ pub(crate) fn push_bytes(text: &mut String, bytes: &[u8]) -> Result<(), AllocErr
     percent_encode(bytes, set).append_to(text)
 }
 
-pub(crate) fn bytes_text(alloc: Global, bytes: &[u8]) -> Result<String, AllocError> {
-    let mut text = String::new(alloc);
-    push_bytes(&mut text, bytes)?;
-    Ok(text)
-}
-
 /// The directory with these files, which are written `NAME=BYTES`, after a change. `None` where one isn't so or the names don't
 /// rise.
 pub(crate) fn image_of(

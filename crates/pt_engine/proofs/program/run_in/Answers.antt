@@ -2,10 +2,9 @@ use Rattle.std.proofs.Common.{ap, sym, subst}
 use Rattle.pt_host.specs.Disk.{Fs, EachImage}
 use Rattle.pt_host.specs.World.{IsIdle}
 use Rattle.pt_host.proofs.Runs.{idle_none}
-use Rattle.pt_table_files.specs.Directory.{HoldsIn}
-use Rattle.pt_table_files.proofs.Directories.{rest_holds}
-use Rattle.pt_engine.specs.Script.{statements}
-use Rattle.pt_engine.proofs.RunLemmas.{keeping_none, none_in_order, entered_run, tells_fault}
+use Rattle.pt_reading.specs.Script.{statements}
+use Rattle.pt_session.specs.Directory.{HoldsIn}
+use Rattle.pt_engine.proofs.RunLemmas.{keeping_none, none_in_order, entered_run, rest_holds}
 use Rattle.pt_engine.proofs.program.run_in.Goals as goal
 
 pub returns-in-Err-clause-told : goal.returns-in-Err-clause-told
@@ -13,7 +12,7 @@ returns-in-Err-clause-told g c tells =
     let same = c.in-Err.ensures.failed tells in
     let now = g.H.Host.world c.args.host.now in
     record {
-      damage = tells_fault _ _;
+      damage = tt;
       headline = λ db held. none_in_order db (statements now.input) now _ (ap (λ w. w.moments) same);
       stands = λ db held. (
         0,

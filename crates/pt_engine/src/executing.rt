@@ -1,0 +1,47 @@
+ghost use Rattle.std.specs.Prelude.{◌≡◌, true};
+ghost use Rattle.pt_host.specs.Listed.{FileList};
+ghost use Rattle.pt_ast.specs.StorableStmt.{IsStorableStmt};
+ghost use Rattle.pt_store.specs.Stops.{IsCounted};
+ghost use Rattle.pt_store.specs.Store.{IsStore};
+ghost use Rattle.pt_step.specs.Step.{is_covered, step};
+ghost use Rattle.pt_session.specs.Leaves.{Tells};
+ghost use Rattle.pt_session.specs.Session.{HasMap, IsOpen, IsLeftAfter};
+
+use pt_ast::{Reply, Stmt};
+use pt_host::Host;
+use pt_session::Session;
+use pt_store::Stop;
+
+/// Executes a statement over a session. A refusal, and want of memory, leave the directory's database and the session as they
+/// were. After `Fault` the session is as it was, where a file couldn't be read, or no longer live.
+pub fn execute<H: Host>(session: &mut Session, host: &mut H, stmt: &Stmt) -> Result<Reply, Stop>
+    requires open { IsOpen session.old }
+    requires storable { IsStorableStmt stmt.now }
+    requires covered { is_covered stmt.now ≡ true }
+    requires stands { H.tells → HasMap session.old (H.world host.old) }
+    ensures told { H.tells → (map : FileList) → IsStore session.old.store map (H.world host.old) → Tells (λ db. step db stmt.now) session.old session.new map (H.world host.old) (H.world host.new) result }
+    ensures open { IsLeftAfter session.old session.new result }
+    ensures counts { IsCounted (H.counts host.old) (H.counts host.new) result }
+{
+    match stmt {
+        Stmt::Create(_, _, _) | Stmt::Like(_, _, _) | Stmt::Drop(_, _) => {
+            pt_alter::execute(session, host, stmt)
+        }
+        Stmt::Insert(false, _) => pt_dml::execute(session, host, stmt),
+        Stmt::Select(_) | Stmt::Show(_) => pt_select::execute(session, host, stmt),
+        Stmt::Insert(true, _)
+        | Stmt::AddParts(_, _)
+        | Stmt::AddCount(_, _)
+        | Stmt::DropParts(_, _)
+        | Stmt::Truncate(_, _)
+        | Stmt::Coalesce(_, _)
+        | Stmt::Reorganize(_, _, _)
+        | Stmt::Exchange(_, _, _)
+        | Stmt::RemoveParts(_)
+        | Stmt::PartitionBy(_, _)
+        | Stmt::Replace(_)
+        | Stmt::Update(_, _, _, _)
+        | Stmt::Delete(_, _, _)
+        | Stmt::Explain(_) => unreachable!(),
+    }
+}

@@ -1,4 +1,0 @@
-pub mod Word
-pub mod Answer
-pub mod Step
-pub mod Sound

@@ -1,9 +1,0 @@
-pub mod Numbers
-pub mod Definition
-pub mod Cells
-pub mod Records
-pub mod Counter
-pub mod FileNames
-pub mod Holds
-pub mod Directory
-pub mod Canonical
