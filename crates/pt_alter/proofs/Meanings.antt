@@ -21,10 +21,10 @@ use Rattle.pt_db.specs.Texts.{ok_text}
 use Rattle.pt_db.proofs.Lookups.{table_added, table_removed}
 use Rattle.pt_db.proofs.Sounds.{added_sound, removed_sound}
 use Rattle.pt_holds.specs.ShapeChanges.{IsCreate, IsCreateOf, IsDropOf}
-use Rattle.pt_step.specs.Create.{create}
-use Rattle.pt_step.specs.DropTable.{drop_table}
-use Rattle.pt_step.specs.Fresh.{nothing_or, with_fresh}
-use Rattle.pt_step.specs.Like.{like}
+use Rattle.pt_flat.specs.Create.{create}
+use Rattle.pt_flat.specs.DropTable.{drop_table}
+use Rattle.pt_flat.specs.Fresh.{nothing_or, with_fresh}
+use Rattle.pt_flat.specs.Like.{like}
 use Rattle.pt_session.specs.declared.session.Session.{Session}
 use Rattle.pt_session.specs.Leaves.{Tells}
 use Rattle.pt_session.specs.Session.{StandsIn, def_of}

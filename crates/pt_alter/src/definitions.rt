@@ -8,10 +8,10 @@ ghost use Rattle.pt_store.specs.Stops.{IsCounted};
 ghost use Rattle.pt_store.specs.Store.{IsStore};
 ghost use Rattle.pt_db.specs.Outcome.{reply_of};
 ghost use Rattle.pt_holds.specs.ShapeChanges.{IsCreate};
-ghost use Rattle.pt_step.specs.Create.{create};
-ghost use Rattle.pt_step.specs.DropTable.{drop_table};
-ghost use Rattle.pt_step.specs.Fresh.{nothing_or, with_fresh};
-ghost use Rattle.pt_step.specs.Like.{like};
+ghost use Rattle.pt_flat.specs.Create.{create};
+ghost use Rattle.pt_flat.specs.DropTable.{drop_table};
+ghost use Rattle.pt_flat.specs.Fresh.{nothing_or, with_fresh};
+ghost use Rattle.pt_flat.specs.Like.{like};
 ghost use Rattle.pt_session.specs.Leaves.{Tells};
 ghost use Rattle.pt_session.specs.Session.{HasMap, IsOpen, IsOpenAfter, def_of};
 

@@ -4,7 +4,7 @@
 //!   stands for (`Tells`), and every moment of the way is the database before or after. A statement that is refused or does nothing
 //!   touches no file.
 //!
-//! It stands on `pt_session`, on `pt_complete` for the definition that a text means, and on `pt_step` for what statements mean.
+//! It stands on `pt_session`, on `pt_complete` for the definition that a text means, and on `pt_flat` for what statements mean.
 #![tactic(auto)]
 
 mod definitions;

@@ -26,7 +26,7 @@ use Rattle.pt_db.proofs.Lookups.{rows_rise, same_tables, table_other, table_same
 use Rattle.pt_db.proofs.Serials.{row_absent, row_appended}
 use Rattle.pt_db.proofs.Sounds.{filled_sound, sound_table}
 use Rattle.pt_db.proofs.Spots.{placed_spot}
-use Rattle.pt_step.specs.Insert.{insert, with_filled}
+use Rattle.pt_flat.specs.Insert.{insert, with_filled}
 use Rattle.pt_holds.specs.Fit.{FitsColumns}
 use Rattle.pt_holds.specs.RowChanges.{IsChangeOf, IsRowChange, rows_put}
 use Rattle.pt_session.specs.declared.session.Session.{Session}

@@ -28,10 +28,10 @@ use Rattle.pt_store.proofs.Steps.{look_step, step_then}
 use Rattle.pt_db.specs.Lookup.{filled, table_of}
 use Rattle.pt_db.specs.Outcome.{Outcome, found, passed}
 use Rattle.pt_db.specs.Texts.{count_text}
-use Rattle.pt_step.specs.declared.filling.Filling.{Filling}
-use Rattle.pt_step.specs.Growth.{IsSoundFilling}
-use Rattle.pt_step.specs.Insert.{fill, insert, inserted, inserted_into, with_filled}
-use Rattle.pt_step.proofs.Growing.{start_sound}
+use Rattle.pt_flat.specs.declared.filling.Filling.{Filling}
+use Rattle.pt_flat.specs.Growth.{IsSoundFilling}
+use Rattle.pt_flat.specs.Insert.{fill, insert, inserted, inserted_into, with_filled}
+use Rattle.pt_flat.proofs.Growing.{start_sound}
 use Rattle.pt_holds.specs.RowChanges.{AreOnce, IsChangeOf, rows_put}
 use Rattle.pt_session.specs.declared.session.Session.{Session}
 use Rattle.pt_session.specs.Leaves.{Tells}

@@ -23,8 +23,8 @@ use Rattle.pt_checks.specs.Named.{bad_columns, bad_parts, targets}
 use Rattle.pt_checks.specs.Wanted.{is_named_spot}
 use Rattle.pt_db.specs.Outcome.{found, passed, refused_by, refused_where}
 use Rattle.pt_db.specs.Rows.{AreRising}
-use Rattle.pt_step.specs.declared.filling.Filling.{Filling}
-use Rattle.pt_step.specs.Insert.{fill, fill_cells, fill_row, inserted_into, with_added}
+use Rattle.pt_flat.specs.declared.filling.Filling.{Filling}
+use Rattle.pt_flat.specs.Insert.{fill, fill_cells, fill_row, inserted_into, with_added}
 use Rattle.pt_holds.specs.RowChanges.{rows_put}
 use Rattle.pt_dml.specs.declared.halt.Halt.{Halt}
 use Rattle.pt_dml.specs.declared.halt.Halt.TheVariants as halt

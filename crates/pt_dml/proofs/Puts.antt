@@ -25,9 +25,9 @@ use Rattle.pt_db.specs.Rows.{row_at}
 use Rattle.pt_db.specs.Sound.{IsSoundRow}
 use Rattle.pt_db.proofs.RowSounds.{row_pushed}
 use Rattle.pt_db.proofs.Serials.{row_absent}
-use Rattle.pt_step.specs.declared.filling.Filling.{Filling}
-use Rattle.pt_step.specs.Growth.{IsSoundFilling}
-use Rattle.pt_step.specs.Insert.{with_added}
+use Rattle.pt_flat.specs.declared.filling.Filling.{Filling}
+use Rattle.pt_flat.specs.Growth.{IsSoundFilling}
+use Rattle.pt_flat.specs.Insert.{with_added}
 use Rattle.pt_holds.specs.RowChanges.{AreOnce, rows_put}
 use Rattle.pt_unique.specs.Book.{Book}
 use Rattle.pt_dml.specs.declared.work.Work.{Work}

@@ -4,8 +4,8 @@ use Rattle.pt_ast.specs.declared.database.Db.{Db}
 use Rattle.pt_ast.specs.declared.database.Table.{Table}
 use Rattle.pt_ast.specs.declared.statement.NewRows.{NewRows}
 use Rattle.pt_db.specs.Lookup.{table_of}
-use Rattle.pt_step.specs.Insert.{inserted}
-use Rattle.pt_step.specs.Growth.{IsSoundFilling}
+use Rattle.pt_flat.specs.Insert.{inserted}
+use Rattle.pt_flat.specs.Growth.{IsSoundFilling}
 use Rattle.pt_dml.specs.declared.halt.Halt.{Halt}
 use Rattle.pt_dml.specs.declared.halt.Halt.TheVariants as halt
 use Rattle.pt_dml.specs.declared.work.Work.{Work}

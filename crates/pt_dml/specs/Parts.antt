@@ -16,8 +16,8 @@ use Rattle.pt_checks.specs.Named.{bad_columns, bad_parts, targets}
 use Rattle.pt_checks.specs.Wanted.{is_named_spot}
 use Rattle.pt_db.specs.Outcome.{found, passed, refused_by, refused_where}
 use Rattle.pt_db.specs.Sound.{has_wrong_null}
-use Rattle.pt_step.specs.declared.filling.Filling.{Filling}
-use Rattle.pt_step.specs.Insert.{with_added}
+use Rattle.pt_flat.specs.declared.filling.Filling.{Filling}
+use Rattle.pt_flat.specs.Insert.{with_added}
 
 -- 43, 41; 12, 13; then which columns the values of a row are for
 abbrev pub checked : TableDef → NewRows → Result (List ℕ) Refusal

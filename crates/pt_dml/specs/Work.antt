@@ -8,8 +8,8 @@ use Rattle.pt_ast.specs.declared.refusal.Refusal.TheVariants as refusal
 use Rattle.pt_place.specs.Place.{place_of}
 use Rattle.pt_checks.specs.declared.faults.CellsFault.{CellsFault}
 use Rattle.pt_checks.specs.declared.faults.CellsFault.TheVariants as fault
-use Rattle.pt_step.specs.declared.filling.Filling.{Filling}
-use Rattle.pt_step.specs.Growth.{IsSoundFilling}
+use Rattle.pt_flat.specs.declared.filling.Filling.{Filling}
+use Rattle.pt_flat.specs.Growth.{IsSoundFilling}
 use Rattle.pt_holds.specs.Fit.{FitsColumns}
 use Rattle.pt_holds.specs.RowChanges.{AreOnce, rows_put}
 use Rattle.pt_holds.specs.declared.change.RowChange.{RowChange}

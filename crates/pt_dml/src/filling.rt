@@ -10,7 +10,7 @@ ghost use Rattle.pt_store.specs.Stops.{IfBad, IsCounted};
 ghost use Rattle.pt_store.specs.Store.{IsStore};
 ghost use Rattle.pt_db.specs.Rows.{AreRising};
 ghost use Rattle.pt_db.specs.Spots.{IsSpotOf};
-ghost use Rattle.pt_step.specs.Insert.{fill, fill_row};
+ghost use Rattle.pt_flat.specs.Insert.{fill, fill_row};
 ghost use Rattle.pt_holds.specs.Bad.{Bad};
 ghost use Rattle.pt_session.specs.Session.{HasMap, IsOpen, IsOver, def_of};
 ghost use Rattle.pt_dml.specs.Books.{AreBooks, book_at, is_keyed};

@@ -5,7 +5,7 @@ ghost use Rattle.pt_host.specs.Listed.{FileList, by_name};
 ghost use Rattle.pt_store.specs.Step.{IsLook};
 ghost use Rattle.pt_store.specs.Stops.{IfBad, IsCounted};
 ghost use Rattle.pt_store.specs.Store.{IsStore};
-ghost use Rattle.pt_step.specs.Insert.{insert};
+ghost use Rattle.pt_flat.specs.Insert.{insert};
 ghost use Rattle.pt_holds.specs.Bad.{Bad};
 ghost use Rattle.pt_session.specs.Leaves.{Tells};
 ghost use Rattle.pt_session.specs.Session.{HasMap, IsOpen, IsLeftAfter, IsOver, StandsIn, def_of};

@@ -6,7 +6,7 @@
 //!   there. Where the table has no unique key, no row file is read.
 //! - All rows are written at once, with the next serial; a statement that puts none writes nothing.
 //!
-//! It stands on `pt_session`, `pt_unique`, `pt_checks` and `pt_place`, and on the model of `pt_step` for what it means.
+//! It stands on `pt_session`, `pt_unique`, `pt_checks` and `pt_place`, and on the model of `pt_flat` for what it means.
 #![tactic(auto)]
 
 mod books;

@@ -17,7 +17,7 @@ use Rattle.pt_store.specs.Stops.{ByStop, IfBad}
 use Rattle.pt_store.specs.Store.{IsStore}
 use Rattle.pt_store.proofs.Moments.{store_kept}
 use Rattle.pt_db.specs.Outcome.{reply_of}
-use Rattle.pt_step.specs.Step.{step}
+use Rattle.pt_flat.specs.Step.{step}
 use Rattle.pt_holds.specs.Bad.{Bad}
 use Rattle.pt_holds.specs.Holds.{Holds}
 use Rattle.pt_reading.specs.declared.reading.Reading.{Reading}

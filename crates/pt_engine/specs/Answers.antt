@@ -6,7 +6,7 @@ use Rattle.pt_db.specs.Texts.{refusal_text}
 use Rattle.pt_reading.specs.declared.reading.Reading.{Reading}
 use Rattle.pt_reading.specs.declared.reading.Reading.TheVariants.{Spelled, Syntax, TooDeep, LongName}
 use Rattle.pt_reading.specs.Reading.{Reads}
-use Rattle.pt_step.specs.Step.{after, answer}
+use Rattle.pt_flat.specs.Step.{after, answer}
 
 -- what each statement of a list is read as
 abbrev pub AreRead : List (List ℕ) → List Reading → Type 0

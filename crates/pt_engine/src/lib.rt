@@ -16,7 +16,7 @@
 //! its kind (`execute`, which tells what `pt_session` calls `Tells`), `program` is the top call, `ending` the status and the line.
 //!
 //! It stands on `pt_reading` for the script, on `pt_session` for the directory, on `pt_alter`, `pt_dml` and `pt_select` for the
-//! statements, on `pt_step` for what they mean, and on `itoa`.
+//! statements, on `pt_flat` for what they mean, and on `itoa`.
 #![tactic(auto)]
 
 mod answers;

@@ -52,7 +52,7 @@
 //! | `ending NAME` | the ending's status and line, how long the line is, and how many of 192 bytes stay behind it; `ending Damaged FILE PLACE` |
 //! | `laws` | that the functions whose contracts are laws of readings were called |
 //!
-//! It stands on `pt_engine`, on `pt_memhost` and `pt_dirhost` for the hosts, on `pt_step` for the model and `pt_reading` for what a
+//! It stands on `pt_engine`, on `pt_memhost` and `pt_dirhost` for the hosts, on `pt_flat` for the model and `pt_reading` for what a
 //! statement is read as, on `pt_db`, `pt_ast` and `pt_value` for databases and answers, and on `pt_host` and `pt_plain`. A program proves its
 //! own safety; what it shows are its lines.
 #![tactic(auto)]

@@ -6,9 +6,9 @@ ghost use Rattle.pt_reading.specs.Reading.{IfSpelled};
 use crate::text::push_bytes;
 use pt_ast::{Db, Refusal, Reply, Stmt};
 use pt_db::{empty_db, ok_reply, refusal_reply};
+use pt_flat::{is_covered, step};
 use pt_plain::List;
 use pt_reading::{Reading, Script, read};
-use pt_step::{is_covered, step};
 use pt_value::Bin;
 use std::alloc::{AllocError, Global};
 

@@ -21,8 +21,8 @@ use Rattle.pt_db.specs.Outcome.{Outcome, found, refused_by}
 use Rattle.pt_db.proofs.Sounds.{sound_table}
 use Rattle.pt_holds.specs.Holds.{HoldsAt}
 use Rattle.pt_holds.proofs.Held.{ident}
-use Rattle.pt_step.specs.Select.{select, select_from}
-use Rattle.pt_step.specs.Show.{show}
+use Rattle.pt_flat.specs.Select.{select, select_from}
+use Rattle.pt_flat.specs.Show.{show}
 use Rattle.pt_session.specs.declared.session.Session.{Session}
 use Rattle.pt_session.specs.Session.{IsKept, IsOpen, StandsIn, def_of}
 use Rattle.pt_select.specs.Read.{HoldsSpots, spots_read, wanted_in}

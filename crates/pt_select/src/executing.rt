@@ -3,7 +3,7 @@ ghost use Rattle.pt_host.specs.Listed.{FileList};
 ghost use Rattle.pt_ast.specs.StorableStmt.{IsStorableStmt};
 ghost use Rattle.pt_store.specs.Stops.{IsCounted};
 ghost use Rattle.pt_store.specs.Store.{IsStore};
-ghost use Rattle.pt_step.specs.Step.{step};
+ghost use Rattle.pt_flat.specs.Step.{step};
 ghost use Rattle.pt_session.specs.Leaves.{Tells};
 ghost use Rattle.pt_session.specs.Session.{HasMap, IsOpen, IsLeftAfter};
 ghost use Rattle.pt_select.specs.Kind.{is_select};

@@ -10,7 +10,7 @@ ghost use Rattle.pt_checks.specs.Wanted.{arranged};
 ghost use Rattle.pt_store.specs.Stops.{IsCounted};
 ghost use Rattle.pt_store.specs.Store.{IsStore};
 ghost use Rattle.pt_db.specs.Texts.{answered};
-ghost use Rattle.pt_step.specs.Select.{select};
+ghost use Rattle.pt_flat.specs.Select.{select};
 ghost use Rattle.pt_session.specs.Leaves.{Tells};
 ghost use Rattle.pt_session.specs.Session.{HasMap, IsOpen};
 

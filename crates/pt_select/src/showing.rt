@@ -4,7 +4,7 @@ ghost use Rattle.pt_host.specs.Listed.{FileList};
 ghost use Rattle.pt_host.specs.World.{World};
 ghost use Rattle.pt_store.specs.Stops.{IsCounted};
 ghost use Rattle.pt_store.specs.Store.{IsStore};
-ghost use Rattle.pt_step.specs.Show.{show};
+ghost use Rattle.pt_flat.specs.Show.{show};
 ghost use Rattle.pt_session.specs.Leaves.{Tells};
 ghost use Rattle.pt_session.specs.Session.{IsOpen};
 

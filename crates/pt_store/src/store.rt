@@ -174,7 +174,7 @@ impl Store {
 
     /// Puts this map in the place of the old one. `NoMemory` leaves all as it was. After `Fault` the store is no
     /// longer live.
-    pub fn replace<H: Host>(&mut self, host: &mut H, files: &FileList) -> Result<(), Stop>
+    fn replace<H: Host>(&mut self, host: &mut H, files: &FileList) -> Result<(), Stop>
         requires live { IsTrue (is_live self.old) }
         requires rising { AreRising files.now }
         requires serials { H.tells → Contains (map (λ file. file.0) files.now) serials_name }

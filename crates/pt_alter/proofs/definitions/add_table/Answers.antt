@@ -4,7 +4,7 @@ use Rattle.std.proofs.lemmas.Result.{err_from_is_err_and}
 use Rattle.pt_store.proofs.Steps.{no_look}
 use Rattle.pt_db.specs.Texts.{ok_text}
 use Rattle.pt_holds.specs.ShapeChanges.{IsCreateOf}
-use Rattle.pt_step.specs.Fresh.{with_fresh}
+use Rattle.pt_flat.specs.Fresh.{with_fresh}
 use Rattle.pt_session.proofs.Telling.{kept_tells, none_bad, short_tells, unkept_tells}
 use Rattle.pt_alter.proofs.Meanings.{fresh_means}
 use Rattle.pt_alter.proofs.definitions.add_table.Goals as goal

@@ -5,8 +5,8 @@ use Rattle.pt_ast.specs.declared.refusal.Refusal.TheVariants.{TableExists}
 use Rattle.pt_written.specs.Complete.{complete_of}
 use Rattle.pt_store.specs.declared.stop.Stop.TheVariants.{NoMemory}
 use Rattle.pt_store.proofs.Steps.{no_look}
-use Rattle.pt_step.specs.Create.{create}
-use Rattle.pt_step.specs.Fresh.{with_fresh}
+use Rattle.pt_flat.specs.Create.{create}
+use Rattle.pt_flat.specs.Fresh.{with_fresh}
 use Rattle.pt_session.proofs.Telling.{means_same, refused_tells, short_tells}
 use Rattle.pt_alter.proofs.Meanings.{create_new, create_there, nothing_tells, there}
 use Rattle.pt_alter.proofs.definitions.create.Goals as goal

@@ -5,7 +5,7 @@ use Rattle.pt_ast.specs.declared.refusal.Refusal.TheVariants.{NoSuchTable}
 use Rattle.pt_store.proofs.Steps.{no_look}
 use Rattle.pt_db.specs.Texts.{ok_text}
 use Rattle.pt_holds.specs.ShapeChanges.{IsDropOf}
-use Rattle.pt_step.specs.DropTable.{drop_table}
+use Rattle.pt_flat.specs.DropTable.{drop_table}
 use Rattle.pt_session.proofs.Telling.{kept_tells, none_bad, short_tells, unkept_tells}
 use Rattle.pt_alter.proofs.Meanings.{drop_absent, drop_means, nothing_tells, there}
 use Rattle.pt_alter.proofs.definitions.drop_table.Goals as goal

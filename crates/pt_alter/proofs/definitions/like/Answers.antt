@@ -2,8 +2,8 @@ use Rattle.std.proofs.Common.{◌≡◌, Some, None, rules, sym, ◌∙◌}
 use Rattle.std.proofs.lemmas.Result.{err_from_is_err_and}
 use Rattle.pt_ast.specs.declared.refusal.Refusal.TheVariants.{NoSuchTable, TableExists}
 use Rattle.pt_store.proofs.Steps.{no_look}
-use Rattle.pt_step.specs.Fresh.{with_fresh}
-use Rattle.pt_step.specs.Like.{like}
+use Rattle.pt_flat.specs.Fresh.{with_fresh}
+use Rattle.pt_flat.specs.Like.{like}
 use Rattle.pt_session.specs.Session.{def_of}
 use Rattle.pt_session.proofs.Telling.{means_same, refused_tells, short_tells}
 use Rattle.pt_alter.proofs.Meanings.{held, like_def, like_new, like_there, not_there, nothing_tells, there}

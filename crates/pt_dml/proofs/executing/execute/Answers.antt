@@ -1,7 +1,7 @@
 use Rattle.std.proofs.Common.{◌≡◌, ◌∙◌, ap, subst, sym, true}
 use Rattle.pt_ast.specs.declared.statement.Stmt.TheVariants as stmt
 use Rattle.pt_session.specs.Leaves.{Tells}
-use Rattle.pt_step.specs.Step.{step}
+use Rattle.pt_flat.specs.Step.{step}
 use Rattle.pt_dml.specs.Kind.{is_dml}
 use Rattle.pt_dml.proofs.Ends.{not_ignoring}
 use Rattle.pt_dml.proofs.executing.execute.Goals as goal

@@ -4,7 +4,7 @@ use Rattle.pt_host.specs.Listed.{FileList, by_name}
 use Rattle.pt_store.specs.Stops.{IfBad, IsCounted}
 use Rattle.pt_store.specs.Store.{IsStore}
 use Rattle.pt_store.proofs.Steps.{look_then, no_look}
-use Rattle.pt_step.specs.Insert.{fill}
+use Rattle.pt_flat.specs.Insert.{fill}
 use Rattle.pt_holds.specs.Bad.{Bad}
 use Rattle.pt_session.specs.Session.{IsOver}
 use Rattle.pt_dml.specs.Halts.{stop_of}

@@ -1,7 +1,7 @@
 use Rattle.std.proofs.Common.{Err, Ok}
 use Rattle.std.proofs.lemmas.Result.{err_from_is_err_and}
 use Rattle.pt_db.proofs.Spots.{placed_spot}
-use Rattle.pt_step.specs.Insert.{fill_row}
+use Rattle.pt_flat.specs.Insert.{fill_row}
 use Rattle.pt_dml.specs.Halts.{of_fault}
 use Rattle.pt_dml.specs.Parts.{with_row}
 use Rattle.pt_dml.specs.Work.{Fills, filling_of}

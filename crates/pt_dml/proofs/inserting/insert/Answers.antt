@@ -4,7 +4,7 @@ use Rattle.pt_host.specs.Listed.{FileList, by_name}
 use Rattle.pt_holds.specs.Bad.{Bad}
 use Rattle.pt_session.specs.Session.{IsOver}
 use Rattle.pt_session.proofs.Telling.{refused_tells, short_tells, stopped_tells}
-use Rattle.pt_step.specs.Insert.{insert}
+use Rattle.pt_flat.specs.Insert.{insert}
 use Rattle.pt_store.specs.Stops.{IfBad}
 use Rattle.pt_store.specs.Store.{IsStore}
 use Rattle.pt_dml.specs.declared.work.Work.{Work}

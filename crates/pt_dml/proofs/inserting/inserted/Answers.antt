@@ -1,7 +1,7 @@
 use Rattle.std.proofs.Common.{Err, Ok, ap, subst, sym, ◌∙◌}
 use Rattle.std.specs.Option.{IsSomeAnd, option_copied}
 use Rattle.std.proofs.lemmas.Result.{err_from_is_err_and}
-use Rattle.pt_step.specs.Insert.{fill}
+use Rattle.pt_flat.specs.Insert.{fill}
 use Rattle.pt_dml.specs.Halts.{of_fault}
 use Rattle.pt_dml.specs.Inserts.{Inserts}
 use Rattle.pt_dml.specs.Work.{Fills, IsWork, filling_of}

@@ -8,7 +8,7 @@ use Rattle.pt_holds.specs.RowChanges.{IsChangeOf, IsRowChange}
 use Rattle.pt_session.specs.Session.{def_of}
 use Rattle.pt_session.proofs.Telling.{TellsChange, answered_tells, kept_tells, none_bad, short_tells, unkept_tells}
 use Rattle.pt_store.proofs.Steps.{no_look}
-use Rattle.pt_step.specs.Insert.{insert}
+use Rattle.pt_flat.specs.Insert.{insert}
 use Rattle.pt_dml.specs.Work.{change_of}
 use Rattle.pt_dml.proofs.Changes.{may_write}
 use Rattle.pt_dml.proofs.Ends.{means_change, means_same_db, none_there, some_there}

@@ -1,6 +1,6 @@
 use Rattle.std.proofs.Common.{subst, sym}
 use Rattle.pt_ast.specs.declared.statement.Stmt.{Stmt}
-use Rattle.pt_step.specs.Step.{step}
+use Rattle.pt_flat.specs.Step.{step}
 use Rattle.pt_session.specs.Leaves.{Tells}
 use Rattle.pt_select.proofs.executing.execute.Goals as goal
 

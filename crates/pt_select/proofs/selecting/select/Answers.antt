@@ -14,7 +14,7 @@ use Rattle.pt_db.specs.Spots.{IsSpotOf, spots_of}
 use Rattle.pt_db.proofs.SpotLists.{spots_each}
 use Rattle.pt_holds.specs.Bad.{Bad}
 use Rattle.pt_store.proofs.Steps.{no_look}
-use Rattle.pt_step.specs.Select.{select}
+use Rattle.pt_flat.specs.Select.{select}
 use Rattle.pt_session.proofs.Excludes.{bad_excludes}
 use Rattle.pt_session.proofs.Over.{stands_over}
 use Rattle.pt_session.proofs.Telling.{answered_tells, refused_tells, short_tells, stopped_tells}

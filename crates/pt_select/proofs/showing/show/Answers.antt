@@ -4,7 +4,7 @@ use Rattle.pt_ast.specs.declared.refusal.Refusal.TheVariants as refusal
 use Rattle.pt_show.specs.Show.{shown_table}
 use Rattle.pt_db.specs.Texts.{answered}
 use Rattle.pt_store.proofs.Steps.{no_look}
-use Rattle.pt_step.specs.Show.{show}
+use Rattle.pt_flat.specs.Show.{show}
 use Rattle.pt_session.proofs.Telling.{answered_tells, refused_tells, short_tells}
 use Rattle.pt_select.proofs.Meanings.{show_answered, show_refused}
 use Rattle.pt_select.proofs.showing.show.Goals as goal

@@ -1,5 +1,0 @@
-use Rattle.pt_db.specs.Sound.{IsSound}
-use Rattle.pt_step_cases.proofs.main.Given as goal
-
-abbrev pub invariant-loop-line : goal.invariant-loop-line
-invariant-loop-line l = IsSound l.db
