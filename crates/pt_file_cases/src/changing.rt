@@ -178,6 +178,16 @@ fn whole_run(
     Ok((calls, text))
 }
 
+/// The map that an append to the map of these files leaves.
+pub(crate) fn appended_text(
+    alloc: Global,
+    image: &Image,
+    batch: &Image,
+) -> Result<String, AllocError> {
+    let (_, text) = whole_run(alloc, image, Change::Append(batch))?;
+    Ok(text)
+}
+
 /// One run more: each image that a stop may then leave is opened.
 fn run(
     alloc: Global,
@@ -248,7 +258,8 @@ fn do_change(store: &mut Store, host: &mut MemHost, change: Change<'_>) -> &'sta
     }
 }
 
-fn append(store: &mut Store, host: &mut MemHost, batch: &FileList) -> &'static str
+/// What an append answers, and whether the store is live.
+pub(crate) fn append(store: &mut Store, host: &mut MemHost, batch: &FileList) -> &'static str
     requires live { IsTrue (is_live store.old) }
     requires stands { HasMap store.old (world_in host.old) }
     requires rising { AreRising batch.now }

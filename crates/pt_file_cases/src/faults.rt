@@ -1,17 +1,13 @@
-//! A call fails in the middle of a replacement.
-ghost use Rattle.std.specs.Prelude.{◌≡◌, IsTrue, IsSome, None, Contains, map};
+//! A call fails in the middle of an append.
+ghost use Rattle.std.specs.Prelude.{◌≡◌, IsSome, None};
 ghost use Rattle.pt_host.specs.Disk.{IsAtRest};
-ghost use Rattle.pt_host.specs.Listed.{AreRising};
 ghost use Rattle.pt_memhost.specs.Memory.{world_in};
-ghost use Rattle.pt_left.specs.Left.{serials_name};
-ghost use Rattle.pt_store.specs.Store.{HasMap, is_live};
 
+use crate::changing::{append, appended_text};
 use crate::maps::{map_text, stop_text};
-use crate::replacing::has_serials;
 use crate::texts::{cut, image_of};
-use pt_host::{FileList, Host, HostFail, Image, Name};
+use pt_host::{Host, HostFail, Image, Name};
 use pt_memhost::MemHost;
-use pt_plain::List;
 use pt_store::{Stop, Store};
 use std::alloc::{AllocError, Global};
 
@@ -29,23 +25,23 @@ pub(crate) fn answer(alloc: Global, directory: &str, rest: &str) -> Result<Strin
         number: number.parse::<u64>().unwrap_or(0),
         is_shifted: shift == "1",
     };
-    let (Some(image), Some(map)) = (image_of(alloc, directory, "")?, image_of(alloc, files, "")?)
+    let (Some(image), Some(batch)) = (image_of(alloc, directory, "")?, image_of(alloc, files, "")?)
     else {
         return String::from_str(alloc, "no files");
     };
-    fault_over(alloc, &image, &map, order)
+    fault_over(alloc, &image, &batch, order)
 }
 
 fn fault_over(
     alloc: Global,
     image: &Image,
-    map: &Image,
+    batch: &Image,
     order: Order,
 ) -> Result<String, AllocError> {
     let old = map_text(alloc, image)?;
-    let new = new_text(alloc, map)?;
+    let new = appended_text(alloc, image, batch)?;
     let mut host = MemHost::from_image(alloc, image, b"")?;
-    let answer = match replace_in(alloc, &mut host, map, order) {
+    let answer = match append_in(alloc, &mut host, batch, order) {
         Ok(answer) => String::from_str(alloc, answer)?,
         Err(stop) => stop_text(alloc, &stop)?,
     };
@@ -53,46 +49,20 @@ fn fault_over(
     format!(in alloc; "{answer} {images}")
 }
 
-/// The map of these files as it is read back.
-fn new_text(alloc: Global, map: &Image) -> Result<String, AllocError> {
-    let count = map.files.items().len();
-    let word = format!(in alloc; "map {count}")?;
-    crate::texts::files_text(alloc, word.as_str(), map.files.items())
-}
-
-/// What a replacement answers of which a call fails, and whether the store is live.
-fn replace_in(
+/// What an append answers of which a call fails, and whether the store is live.
+fn append_in(
     alloc: Global,
     host: &mut MemHost,
-    map: &Image,
+    batch: &Image,
     order: Order,
 ) -> Result<&'static str, Stop>
     requires outside { (world_in host.old).dir ≡ None }
     requires rests { IsAtRest (world_in host.old).now.fs }
 {
-    if !has_serials(map.files.items()) {
-        return Ok("no serials.cnt");
-    }
     host.enter("d")?;
     let mut store = Store::attach(alloc, host)?;
     fail(alloc, host, order)?;
-    Ok(replaced(&mut store, host, &map.files))
-}
-
-fn replaced(store: &mut Store, host: &mut MemHost, files: &FileList) -> &'static str
-    requires live { IsTrue (is_live store.old) }
-    requires stands { HasMap store.old (world_in host.old) }
-    requires rising { AreRising files.now }
-    requires serials { Contains (map (λ file. file.0) files.now) serials_name }
-{
-    let answer = store.replace(host, files);
-    match (answer, store.is_live()) {
-        (Ok(()), true) => "done live",
-        (Ok(()), false) => "done spent",
-        (Err(Stop::Fault), true) => "fault live",
-        (Err(Stop::Fault), false) => "fault spent",
-        (Err(_), _) => "another stop",
-    }
+    Ok(append(&mut store, host, &batch.files))
 }
 
 /// Orders a call to fail. A change of names that fails is made exactly where its number is odd, counted over all calls.

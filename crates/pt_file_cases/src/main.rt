@@ -17,12 +17,11 @@
 //! | `map CHANGE` | the map that a `Store` reads back over these files at rest, or `bad NAME PLACE` |
 //! | `length NAME` | the length that the store tells, or `absent` |
 //! | `left` | how many name operations are pending once a store was attached, and the files that a stop then leaves |
-//! | `replace FILE..` | puts this map in the place of the one of the directory, which is from then on what is left: how many calls it took, whether the store is live, how many name operations are pending, in how many calls memory was wanting, and what the same store reads back |
 //! | `append FILE..` | adds these bytes at the ends of these files of its map, which is from then on what is left: the answer, whether the store is live and how many calls it took; `unfit` where the map lacks one |
 //! | `stops FILE..` | the same append once more for each of its calls with a fault in that call, and with one in each call from that one on: how many runs, how many didn't answer `fault` with a spent store, how many left it live, and how many images that a stop may then leave show another map than the old one and the new one |
 //! | `reshape ACT.. / FILE..` | does these acts to its map with these fresh bytes, which is from then on what is left: how many calls it took, whether the store is live, how many name operations are pending, in how many calls memory was wanting, and what the same store reads back; `outside` where `Store::reshape` may not be asked so |
 //! | `reshapestops ACT.. / FILE..` | of that reshape what `stops` tells of an append |
-//! | `fault NUMBER SHIFT FILE..` | the same replacement with a fault in its call of this number, counted from 0, and with SHIFT 1 after one call more: the answer, whether the store is live, and of the images that a stop may then leave how many were opened, how many show the old map, the new one, and another |
+//! | `fault NUMBER SHIFT FILE..` | an append of these bytes with a fault in its call of this number, counted from 0, and with SHIFT 1 after one call more: the answer, whether the store is live, and of the images that a stop may then leave how many were opened, how many show the old map, the new one, and another |
 //!
 //! | Line without the directory | Answer |
 //! |---|---|
@@ -36,7 +35,6 @@ mod allowed;
 mod changing;
 mod faults;
 mod maps;
-mod replacing;
 mod reshaping;
 mod texts;
 
@@ -61,7 +59,6 @@ fn answer(alloc: Global, directory: &mut String, line: &str) -> Result<String, A
             *directory = String::from_str(alloc, rest)?;
             texts::directory_text(alloc, rest)
         }
-        "replace" => replacing::answer(alloc, directory, rest),
         "append" => changing::append_answer(alloc, directory, rest),
         "reshape" => reshaping::answer(alloc, directory, rest),
         _ => answer_about(alloc, directory.as_str(), word, rest, line),

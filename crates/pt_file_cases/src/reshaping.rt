@@ -8,7 +8,6 @@ ghost use Rattle.pt_store.specs.Store.{HasMap, is_live};
 use crate::allowed::may_reshape;
 use crate::changing::{Change, chain_of, stops_over};
 use crate::maps::{left_text, read_all, stop_text};
-use crate::replacing::counts_text;
 use crate::texts::image_of;
 use pt_ddl_log::Chain;
 use pt_host::{FileList, Host, Image};
@@ -103,4 +102,15 @@ pub(crate) fn stops_answer(
 /// The acts, and the files behind a `/`.
 fn parts(text: &str) -> (&str, &str) {
     text.split_once('/').unwrap_or((text, ""))
+}
+
+fn counts_text(
+    alloc: Global,
+    host: &MemHost,
+    before: u64,
+    live: bool,
+) -> Result<String, AllocError> {
+    let calls = host.calls().saturating_sub(before);
+    let (pending, starved) = (host.pending(), host.starved());
+    format!(in alloc; "calls {calls} live {live} pending {pending} starved {starved}")
 }

@@ -1,10 +1,12 @@
 -- The parts of a spelling: each ends by itself, so that bytes begin with one value's spelling at most.
-use Rattle.std.proofs.Common.{◌≡◌, ℕ, ◌^◌, ◌<◌, List, ◌∷◌, ◌++◌, length, get_or, take, drop, refl, sym, ap, ap₂, subst, ◌∙◌, append_assoc, arith, length-append, length-take, inl, inr, Fits, w8}
-use Rattle.std.specs.Int.{w64, from_le_bytes}
+use Rattle.std.proofs.Common.{◌≡◌, ℕ, ◌^◌, ◌<◌, List, ◌∷◌, ◌++◌, length, get_or, take, drop, Some, refl, sym, ap, ap₂, subst, ◌∙◌, append_assoc, arith, length-append, Fits, w8}
 use Rattle.std.specs.List.{IsSplitAt}
-use Rattle.std.proofs.lemmas.Bool.{cases_lt}
-use Rattle.std.proofs.lemmas.List.{take_at, drop_at, take-append-drop, get_or-take, get_or_past}
-use Rattle.std.proofs.lemmas.Nat.{le_bytes_8, from_le_bytes-to_le_bytes_8}
+use Rattle.std.proofs.lemmas.List.{take_all, take_at, drop_at, take-append-drop, get_or-take}
+use Rattle.std.proofs.lemmas.List.Elements.{All-from_get_or}
+use Rattle.std.specs.Option.{option_map}
+use Rattle.pt_bytes.specs.Numbers.{number_of, le_bytes, part_at, AreBytes}
+use Rattle.pt_bytes.proofs.Numbers.{again, back, below, length-le_bytes}
+use Rattle.pt_bytes.proofs.Parts.{part_there}
 use Rattle.pt_host.specs.Name.{IsName}
 use Rattle.pt_left.specs.Spelling.{number, spelled_name, spelled_bytes, spelled_file, IsFile}
 
@@ -19,20 +21,27 @@ same_parts a b rest more long e = (
 
 pub length-number : (n : ℕ) → length (number n) ≡ 8
 unfolding number
-length-number n = refl
+length-number n = length-le_bytes 8 n
 
-pub number_read : (bytes : List ℕ) (n : ℕ) → length bytes ≡ 8 → ((i : ℕ) → get_or bytes i 0 < 256) → n ≡ from_le_bytes w64 bytes → (n < 2 ^ 64) × (bytes ≡ number n)
+number_read : (bytes : List ℕ) (n : ℕ) → length bytes ≡ 8 → AreBytes bytes → n ≡ number_of bytes → (n < 2 ^ 64) × (bytes ≡ number n)
 unfolding number
-number_read bytes n long fits e = (omega (arith, e, fits 0, fits 1, fits 2, fits 3, fits 4, fits 5, fits 6, fits 7), sym (le_bytes_8 bytes n long fits e))
+number_read bytes n long are e =
+    let least : number_of bytes < 256 ^ 8 = subst (λ (k : ℕ). number_of bytes < 256 ^ k) long (below bytes are) in
+    (subst (λ (k : ℕ). k < 2 ^ 64) (sym e) least, sym (back bytes are) ∙ ap (λ k. le_bytes k (number_of bytes)) long ∙ ap (le_bytes 8) (sym e))
 
-number_back : (n : ℕ) → n < 2 ^ 64 → from_le_bytes w64 (number n) ≡ n
+number_back : (n : ℕ) → n < 2 ^ 64 → number_of (number n) ≡ n
 unfolding number
-number_back n below = from_le_bytes-to_le_bytes_8 n below
+number_back n least = again 8 n least
 
 pub one_number : (m n : ℕ) (rest more : List ℕ) → m < 2 ^ 64 → n < 2 ^ 64 → number m ++ rest ≡ number n ++ more → (m ≡ n) × (rest ≡ more)
 one_number m n rest more is_m is_n e =
     let parts = same_parts (number m) (number n) rest more (length-number m ∙ sym (length-number n)) e in
-    (sym (number_back m is_m) ∙ ap (from_le_bytes w64) parts.0 ∙ number_back n is_n, parts.1)
+    (sym (number_back m is_m) ∙ ap number_of parts.0 ∙ number_back n is_n, parts.1)
+
+-- eight bytes are read as their number
+pub number_whole : (front : List ℕ) → length front ≡ 8 → option_map number_of (part_at front 0 8) ≡ Some (number_of front)
+number_whole front long =
+    ap (option_map number_of) (part_there front 0 8 (omega (arith, long))) ∙ ap (λ (xs : List ℕ). Some (number_of xs)) (take_all 8 front (omega (arith, long)))
 
 -- # Names
 
@@ -77,17 +86,14 @@ number_short bytes n rest short e = omega (arith, ap (λ (b : List ℕ). length 
 pub split_whole : (bytes : List ℕ) (n : ℕ) (front rest : List ℕ) → IsSplitAt bytes n front rest → bytes ≡ front ++ rest
 split_whole bytes n front rest s = sym (take-append-drop n bytes) ∙ ap₂ (λ (a b : List ℕ). a ++ b) (sym s.1) (sym s.2)
 
-pub number_taken : (bytes front rest : List ℕ) (n : ℕ) → ((i : ℕ) → Fits w8 (get_or bytes i 0)) → IsSplitAt bytes 8 front rest → n ≡ from_le_bytes w64 front
+pub number_taken : (bytes front rest : List ℕ) (n : ℕ) → ((i : ℕ) → Fits w8 (get_or bytes i 0)) → IsSplitAt bytes 8 front rest → n ≡ number_of front
     → (n < 2 ^ 64) × (bytes ≡ number n ++ rest)
 number_taken bytes front rest n fits s e =
-    let read = number_read front n s.3 (λ i. subst (λ (xs : List ℕ). get_or xs i 0 < 256) (sym s.1) (taken i)) e in
+    let read = number_read front n s.3 (All-from_get_or (λ b. b < 256) front 0 taken) e in
     (read.0, split_whole bytes 8 front rest s ∙ ap (λ (xs : List ℕ). xs ++ rest) read.1)
   where
-    taken : (i : ℕ) → get_or (take 8 bytes) i 0 < 256
-    taken i = elim (cases_lt i 8) [
-      | inl below ↦ rw (get_or-take 8 bytes i 0 below) (omega (arith, fits i))
-      | inr above ↦ rw (get_or_past (take 8 bytes) i 0 (omega (arith, length-take 8 bytes))) (omega arith)
-    ]
+    taken : (i : ℕ) → i < length front → get_or front i 0 < 256
+    taken i lt = subst (λ (xs : List ℕ). get_or xs i 0 < 256) (sym s.1) (rw (get_or-take 8 bytes i 0 (omega (arith, lt, s.3))) (omega (arith, fits i)))
 
 module _ (bytes : List ℕ) (n : ℕ) (tail : List ℕ) (first : bytes ≡ n ∷ tail) where
   name_is : (name more : List ℕ) → bytes ≡ spelled_name name ++ more → (n ≡ length name) × (tail ≡ name ++ more)

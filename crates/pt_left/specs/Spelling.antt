@@ -5,12 +5,12 @@
 --     number = eight bytes, the lowest first
 use Rattle.std.specs.Prelude.{◌≡◌, ℕ, ◌<◌, ◌^◌, List, ◌∷◌, ◌++◌, length, All}
 use Rattle.std.specs.List.{flat_map}
-use Rattle.std.specs.Int.{w64, to_le_bytes}
+use Rattle.pt_bytes.specs.Numbers.{le_bytes}
 use Rattle.pt_host.specs.Name.{IsName}
 use Rattle.pt_host.specs.Listed.{FileList, AreRising}
 
 unfoldable pub number : ℕ → List ℕ
-number n = to_le_bytes w64 n
+number n = le_bytes 8 n
 
 unfoldable pub spelled_name : List ℕ → List ℕ
 spelled_name name = length name ∷ name

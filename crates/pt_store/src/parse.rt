@@ -9,6 +9,7 @@ ghost use Rattle.pt_left.specs.Spelling.{number, spelled_name, spelled_bytes, sp
 ghost use Rattle.pt_store.specs.Entries.{Begins, Parses};
 
 use crate::entry::Entry;
+use pt_bytes::Cursor;
 use pt_host::Name;
 use pt_plain::List;
 use std::alloc::{AllocError, Global};
@@ -102,8 +103,6 @@ fn number_at(bytes: &[u8]) -> Option<(u64, &[u8])>
     ensures { Begins number (λ n. n < 2 ^ 64) bytes.now (option_map (λ r. (r.0, r.1.now)) result) }
 {
     let (front, rest) = bytes.split_at_checked(8)?;
-    let number = u64::from_le_bytes([
-        front[0], front[1], front[2], front[3], front[4], front[5], front[6], front[7],
-    ]);
+    let number = Cursor::new(front).u64_at(0)?;
     Some((number, rest))
 }

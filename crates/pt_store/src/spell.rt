@@ -5,6 +5,7 @@ ghost use Rattle.pt_left.specs.Spelling.{spelled_file, IsFile, SpellsFiles};
 ghost use Rattle.pt_store.specs.Entries.{AreEntries};
 
 use crate::entry::Entry;
+use pt_bytes::{put_bytes, put_u8, put_u64};
 use pt_host::Name;
 use pt_plain::List;
 use std::alloc::{AllocError, Global};
@@ -19,7 +20,7 @@ pub(crate) fn spell(
 {
     let mut out = Vec::new(alloc);
     let mut entries = List::new(alloc);
-    out.extend_from_slice(&(files.len() as u64).to_le_bytes())?;
+    put_u64(&mut out, files.len() as u64)?;
     for (name, bytes) in files {
         let bytes = bytes.items();
         put_file(&mut out, name, bytes)?;
@@ -37,9 +38,9 @@ fn put_file(out: &mut Vec<u8>, name: &Name, bytes: &[u8]) -> Result<(), AllocErr
     ensures is { IsFile (name.now, bytes.now) }
 {
     let name = name.bytes();
-    out.push(name.len() as u8)?;
-    out.extend_from_slice(name)?;
-    out.extend_from_slice(&(bytes.len() as u64).to_le_bytes())?;
-    out.extend_from_slice(bytes)?;
+    put_u8(out, name.len() as u8)?;
+    put_bytes(out, name)?;
+    put_u64(out, bytes.len() as u64)?;
+    put_bytes(out, bytes)?;
     Ok(())
 }

@@ -6,5 +6,5 @@ use Rattle.pt_store.proofs.spell.put_file.Goals as goal
 pub returns-clause-spelled : goal.returns-clause-spelled
 unfolding number
 returns-clause-spelled c =
-    subst (λ (name : List ℕ). c.extend_from_slice-3.new.self.items ≡ c.args.out.now.items ++ spelled_file (name, c.args.bytes.now)) c.bytes-name.ensures.value
-    (file_written _ _ _ _ _ _ _ c.in_ok-push.ensures.items c.in_ok-extend_from_slice.ensures.items (rw c.to_le_bytes.ensures at c.in_ok-extend_from_slice-2.ensures.items) c.in_ok-extend_from_slice-3.ensures.items)
+    subst (λ (name : List ℕ). c.put_bytes-2.new.out.items ≡ c.args.out.now.items ++ spelled_file (name, c.args.bytes.now)) c.bytes-name.ensures.value
+    (file_written _ _ _ _ _ _ _ c.in_ok-put_u8.ensures.ok c.in_ok-put_bytes.ensures.ok c.in_ok-put_u64.ensures.ok c.in_ok-put_bytes-2.ensures.ok)

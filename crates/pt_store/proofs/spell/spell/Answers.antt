@@ -7,7 +7,7 @@ use Rattle.pt_store.proofs.spell.spell.Goals as goal
 pub loop-name-init : goal.loop-name-init
 unfolding number
 loop-name-init c =
-    rw (c.in_ok-extend_from_slice.ensures.items, c.new-out.ensures.items, c.new-entries.ensures, c.to_le_bytes.ensures) (writing_starts (length c.args.files.now))
+    rw (c.in_ok-put_u64.ensures.ok, c.new-out.ensures.items, c.new-entries.ensures) (writing_starts (length c.args.files.now))
 
 pub overflow_sub-len : goal.overflow_sub-len
 overflow_sub-len c = omega (arith, c.len.ensures, c.put_file.new.out.ok, content_written _ _ _ c.in_ok-put_file.ensures.spelled)
