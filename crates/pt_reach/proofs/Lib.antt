@@ -1,0 +1,13 @@
+pub mod Names
+pub mod Constants
+pub mod Orders
+pub mod Typing
+pub mod Tests
+pub mod Truths
+pub mod Membership
+pub mod Filled
+pub mod Folding
+pub mod Finding
+pub mod Few
+pub mod Parting
+pub mod Soundness
