@@ -7,3 +7,7 @@ pub mod Changed
 pub mod Short
 pub mod Texts
 pub mod Batches
+pub mod Wholes
+pub mod Exchanges
+pub mod Given
+pub mod Alters

@@ -36,7 +36,7 @@ use Rattle.pt_session.proofs.ShapeFiles.{from_map, listed_file, pairs_map, row_l
 abbrev pub of_acts : List Act → Chain
 of_acts acts = record { acts = acts }
 
-one_all : {X : Type 0} (P : X → Type 0) (x : X) → P x → All P (x ∷ [])
+pub one_all : {X : Type 0} (P : X → Type 0) (x : X) → P x → All P (x ∷ [])
 one_all P x h = All-cons P x [] h (All-nil P)
 
 apart_comes : (a b : List ℕ) → IsOwn a → IsOwn b → a ≢ b → AreApart (comes a) (comes b)
@@ -48,7 +48,7 @@ apart_comes a b own_a own_b other name in_a in_b = go (two_names (a ++ shadow_en
     go (inr x) (inl y) = own_not_shadow a b own_a (x ∙ sym y)
     go (inr x) (inr y) = other (x ∙ sym y)
 
-apart_goes : (a b : List ℕ) → a ≢ b → AreApart (goes a) (goes b)
+pub apart_goes : (a b : List ℕ) → a ≢ b → AreApart (goes a) (goes b)
 apart_goes a b other name in_a in_b = other (one_name a name in_a ∙ sym (one_name b name in_b))
 
 abbrev pub come : List ℕ × List ℕ → Act
@@ -58,7 +58,7 @@ come_alone : (files : FileList) → list_any is_exchange (map come files) ≡ fa
 come_alone [] = refl
 come_alone (file ∷ files) = come_alone files
 
-go_alone : (files : List (List ℕ)) → list_any is_exchange (map goes files) ≡ false
+pub go_alone : (files : List (List ℕ)) → list_any is_exchange (map goes files) ≡ false
 go_alone [] = refl
 go_alone (file ∷ files) = go_alone files
 

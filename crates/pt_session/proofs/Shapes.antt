@@ -76,7 +76,7 @@ sized (Some n) = refl
 sized None = refl
 
 -- the files of a table are there as they were
-files_kept_at : (a b : Store) (name : List ℕ) (def : Option TableDef) → is_some (length_of b (def_name name)) ≡ is_some (length_of a (def_name name))
+pub files_kept_at : (a b : Store) (name : List ℕ) (def : Option TableDef) → is_some (length_of b (def_name name)) ≡ is_some (length_of a (def_name name))
     → ((leaf : Option (List ℕ)) → is_some (length_of b (row_name name leaf)) ≡ is_some (length_of a (row_name name leaf))) → HasFilesAt a name def → HasFilesAt b name def
 files_kept_at a b name None defs rows has = record {
   defined = none_same _ _ defs has.defined;
@@ -176,7 +176,7 @@ module _ (session after : Session) (name : List ℕ) (def : TableDef) (to : Opti
 -- # A database
 
 -- extra files play no part
-plain_holds : (f g : Files) (db : Db) → ((file : List ℕ) → is_extra file ≡ false → g file ≡ f file) → Holds f db → Holds g db
+pub plain_holds : (f g : Files) (db : Db) → ((file : List ℕ) → is_extra file ≡ false → g file ≡ f file) → Holds f db → Holds g db
 plain_holds f g db same h = record {
   sound = h.sound;
   tables = λ name is. at_same f g name (table_of db name) (same (def_name name) (def_plain name)) (λ leaf. same (row_name name leaf) (row_plain name leaf)) (h.tables name is);

@@ -1,17 +1,24 @@
 -- What calls and statements leave of the database that a session stands for.
-use Rattle.std.specs.Prelude.{◌≡◌, ◌⊎◌, Result, IfOk, OnOk}
+use Rattle.std.specs.Prelude.{◌≡◌, ◌⊎◌, ℕ, List, Result, IfOk, OnOk}
+use Rattle.std.specs.Str.{bytes_eq}
+use Rattle.indexmap.specs.IndexMap.{insert_entry}
 use Rattle.pt_host.specs.Listed.{FileList, by_name}
 use Rattle.pt_host.specs.World.{World, OnlyLooks}
 use Rattle.pt_ast.specs.declared.database.Db.{Db}
+use Rattle.pt_ast.specs.declared.database.Row.{Row}
+use Rattle.pt_ast.specs.declared.database.Spot.{Spot}
 use Rattle.pt_ast.specs.declared.reply.Reply.{Reply}
+use Rattle.pt_ast.specs.declared.table.TableDef.{TableDef}
 use Rattle.pt_store.specs.declared.stop.Stop.{Stop}
 use Rattle.pt_store.specs.Stops.{ByStop, IfBad}
 use Rattle.pt_db.specs.Outcome.{Outcome, db_behind, reply_of}
 use Rattle.pt_store.specs.Step.{IsStep}
+use Rattle.pt_store.specs.Store.{IsStore}
+use Rattle.pt_holds.specs.Acts.{HasGiven}
 use Rattle.pt_holds.specs.Bad.{Bad}
 use Rattle.pt_holds.specs.Holds.{Holds}
 use Rattle.pt_session.specs.declared.session.Session.{Session}
-use Rattle.pt_session.specs.Session.{HasDefs, IsOver, IsOverAfter, StandsIn}
+use Rattle.pt_session.specs.Session.{HasDefs, IsOver, IsOverAfter, StandsIn, tables_of}
 
 -- What a call leaves whose success makes a later database of this one: the other map that an image may stand for is the old one,
 -- or holds the later database; after Ok it does; and unless the disk failed the session has the definitions of one of the two.
@@ -19,6 +26,12 @@ pub record Leaves {T : Type 0} (after : Session) (map next : FileList) (db later
   pub between : (next ≡ map) ⊎ Holds (by_name next) later
   pub holds : OnOk result (Holds (by_name next) later)
   pub defs : ByStop result (HasDefs after later) (HasDefs after db) (Unit {0})
+
+-- What stands after Ok where a table got another definition: it kept its place among the tables, and the file of each spot whose rows
+-- were given has their puts and nothing else.
+pub record HasAltered (tells : Type 0) (before after : Session) (w : World) (name : List ℕ) (def : TableDef) (fresh : List (Spot × List Row)) : Type 0 where
+  pub place : tables_of after ≡ insert_entry bytes_eq (tables_of before) name def
+  pub given : tells → (map : FileList) → IsStore after.store map w → HasGiven (by_name map) name def fresh
 
 -- What the execution of a statement leaves and answers, where the session stands for this database and the statement's meaning is
 -- this outcome.

@@ -6,3 +6,4 @@ pub mod Directory
 pub mod Opening
 pub mod Writing
 pub mod Shaping
+pub mod HeldSpots

@@ -1,7 +1,9 @@
 -- What a session is, and what it stands for.
 use Rattle.std.specs.Prelude.{◌≡◌, ◌⊎◌, ℕ, ◌<◌, ◌≤◌, ◌^◌, Bool, List, Option, Some, None, IfSome, IsSome, IsTrue, Result, Ok, All, nat_eq, false}
 use Rattle.std.specs.Option.{option_map}
-use Rattle.std.specs.Cmp.Lexicographic.{pointwise}
+use Rattle.std.specs.Cmp.Lexicographic.{pointwise, slice_cmp}
+use Rattle.std.specs.List.Sorted.{IsStrictlySortedBy}
+use Rattle.std.specs.Ordering.{nat_cmp}
 use Rattle.indexmap.specs.IndexMap.{get}
 use Rattle.pt_value.specs.Ident.{IsIdent}
 use Rattle.pt_host.specs.Disk.{Files}
@@ -36,6 +38,10 @@ is_live session = store.is_live session.store
 -- the definitions with the names of their tables, in their order
 abbrev pub tables_of : Session → List (List ℕ × TableDef)
 tables_of session = session.tables.entries
+
+-- names rise in byte order, each once
+abbrev pub AreRisingNames : List (List ℕ) → Type 0
+AreRisingNames names = IsStrictlySortedBy (slice_cmp nat_cmp) names
 
 -- the definition of the table of a name
 abbrev pub def_of : Session → List ℕ → Option TableDef

@@ -1,6 +1,6 @@
 //! What is read of a directory that is opened: the counter, and the definitions of its tables.
 ghost use Rattle.std.specs.Prelude.{◌≡◌, ◌<◌, ◌≤◌, ◌+◌, ◌^◌, ℕ, List as Listed, length, take, IfNone, IfOk, IfSome, IsSome, IsTrue, OnOk};
-ghost use Rattle.indexmap.specs.IndexMap.{IsEmpty};
+ghost use Rattle.indexmap.specs.IndexMap.{IsEmpty, keys};
 ghost use Rattle.pt_host.specs.Listed.{FileList, by_name};
 ghost use Rattle.pt_host.specs.World.{OnlyLooks};
 ghost use Rattle.pt_left.specs.Left.{serials_name};
@@ -9,7 +9,7 @@ ghost use Rattle.pt_names.specs.Names.{IsDefOf, def_name};
 ghost use Rattle.pt_store.specs.Stops.{IfBad, IsCounted};
 ghost use Rattle.pt_store.specs.Store.{HasMap, IsStore, is_live, sizes};
 ghost use Rattle.pt_holds.specs.Bad.{Bad, Defines, HasNext};
-ghost use Rattle.pt_session.specs.Session.{IsKept, length_of};
+ghost use Rattle.pt_session.specs.Session.{AreRisingNames, IsKept, length_of};
 ghost use Rattle.pt_session.specs.Opening.{AddsDef, AreDefined, AreRead, IsChecked, table_in};
 
 use crate::tables::{TableDefs, TableName};
@@ -46,7 +46,7 @@ pub(crate) fn read_next<H: Host>(store: &Store, host: &mut H) -> Result<u64, Sto
     }
 }
 
-/// The tables that the store's files define.
+/// The tables that the store's files define, by rising names.
 pub(crate) fn read_tables<H: Host>(
     alloc: Global,
     store: &Store,
@@ -54,6 +54,7 @@ pub(crate) fn read_tables<H: Host>(
 ) -> Result<TableDefs, Stop>
     requires live { IsTrue (is_live store.now) }
     requires stands { H.tells → HasMap store.now (H.world host.old) }
+    ensures rising { IfOk result (λ tables. AreRisingNames (keys tables)) }
     ensures defined { IfOk result (λ tables. AreDefined (sizes store.now) (table_in tables)) }
     ensures read { IfOk result (λ tables. H.tells → (map : FileList) → IsStore store.now map (H.world host.old) → AreRead (by_name map) (table_in tables)) }
     ensures looks { H.tells → OnlyLooks (H.world host.old) (H.world host.new) }
@@ -62,6 +63,7 @@ pub(crate) fn read_tables<H: Host>(
 {
     let mut tables = TableDefs::new(alloc);
     add_tables(alloc, store, host, &mut tables)?;
+    tables.sort_keys()?;
     Ok(tables)
 }
 

@@ -1,4 +1,4 @@
-ghost use Rattle.std.specs.Prelude.{◌≡◌, [], ◌∷◌, ◌++◌, length, slice_get, IfOk, OnOk, IsSome, IsSomeAnd, Some};
+ghost use Rattle.std.specs.Prelude.{◌≡◌, [], ◌∷◌, ◌++◌, length, slice_get, is_some, map, IfOk, OnOk, IsSome, IsSomeAnd, Some};
 ghost use Rattle.std.specs.Map.{remove_entry};
 ghost use Rattle.std.specs.Option.{option_copied, option_map};
 ghost use Rattle.std.specs.Str.{bytes_eq};
@@ -8,6 +8,7 @@ ghost use Rattle.pt_left.specs.Left.{IsWhole};
 ghost use Rattle.pt_store.specs.Stops.{IfBad, IsCounted};
 ghost use Rattle.pt_holds.specs.RowChanges.{IsChangeOf, IsRowChange};
 
+use crate::altering::{altering, exchanging, put_again};
 use crate::looking::fitting_rows;
 use crate::opening::{read_next, read_tables};
 use crate::shaping::{add_last, creating, dropping, take_out};
@@ -16,7 +17,7 @@ use crate::tables::{TableDefs, TableName};
 use crate::writing::batch_for;
 use pt_ast::{Rows, Spot, TableDef};
 use pt_holds::{RowChange, file_of};
-use pt_host::Host;
+use pt_host::{Host, Name};
 use pt_plain::List;
 use pt_store::{Stop, Store};
 use pt_value::Ident;
@@ -42,10 +43,10 @@ impl Session {
     ghost use Rattle.pt_db.specs.Spots.{IsSpotOf};
     ghost use Rattle.pt_holds.specs.Bad.{Bad};
     ghost use Rattle.pt_holds.specs.Holds.{HoldsRows, spot_file};
-    ghost use Rattle.pt_holds.specs.ShapeChanges.{IsCreate, IsCreateOf, IsDropOf};
+    ghost use Rattle.pt_holds.specs.ShapeChanges.{IsAlter, IsAlterOf, IsCreate, IsCreateOf, IsDropOf, IsExchange, IsExchangeOf};
     ghost use Rattle.pt_session.specs.Directory.{IsDamaged, IsOpened};
-    ghost use Rattle.pt_session.specs.Session.{AreSpotRows, HasMap, IsOpen, IsOpenAfter, IsOver, IsOverAfter, StandsIn, def_of, is_live, tables_of};
-    ghost use Rattle.pt_session.specs.Leaves.{Leaves};
+    ghost use Rattle.pt_session.specs.Session.{AreRisingNames, AreSpotRows, HasMap, IsOpen, IsOpenAfter, IsOver, IsOverAfter, StandsIn, def_of, is_live, length_of, tables_of};
+    ghost use Rattle.pt_session.specs.Leaves.{HasAltered, Leaves};
 
     /// Opens the directory that was entered, whose files stand at rest: reads the definitions and the counter, and no row file. A
     /// shadow that an earlier run left is removed first. `Bad` where `whole.map` spells no map, a definition or the counter isn't in
@@ -58,6 +59,7 @@ impl Session {
         ensures clears { H.tells → OnlyClears (H.world host.old) (H.world host.new) }
         ensures bad { IfBad result (λ name place. H.tells → IsDamaged (shown (H.world host.old).now.fs) name place × IsDamaged (shown (H.world host.new).now.fs) name place) }
         ensures open { IfOk result IsOpen }
+        ensures rising { IfOk result (λ session. AreRisingNames (map (λ table. table.0) (tables_of session))) }
         ensures counts { IsCounted (H.counts host.old) (H.counts host.new) result }
     {
         let store = Store::attach(alloc, host)?;
@@ -98,8 +100,8 @@ impl Session {
         self.tables.get(&TableName { ident: *name })
     }
 
-    /// The i-th table, counted from 0. `None` exactly where there are no more than i. At the opening tables stand by the rising names
-    /// of their definitions' files; a table that comes later stands last, and one that goes closes up.
+    /// The i-th table, counted from 0. `None` exactly where there are no more than i. At the opening tables stand by rising names; a
+    /// table that comes later stands last, and one that goes closes up.
     pub fn table_at(&self, i: usize) -> Option<(&Ident, &TableDef)>
         ensures { option_map (λ table. (table.0.now, table.1.now)) result ≡ slice_get (tables_of self.now) i }
     {
@@ -112,6 +114,13 @@ impl Session {
         ensures { result ≡ length (tables_of self.now) }
     {
         self.tables.len()
+    }
+
+    /// Whether the store has a file of this name.
+    pub(crate) fn has_file(&self, name: &Name) -> bool
+        ensures { result ≡ is_some (length_of self.now.store name.now) }
+    {
+        self.store.length(name).is_some()
     }
 
     /// The rows of a spot of the table, by rising serial. `Bad`, of the spot's file, exactly where a record in it isn't proper, or else a
@@ -179,6 +188,58 @@ impl Session {
         let chain = dropping(self.alloc, self, name)?;
         self.store.reshape(host, &List::new(self.alloc), &chain)?;
         take_out(&mut self.tables, TableName { ident: *name });
+        Ok(())
+    }
+
+    /// Gives the table of this name another definition; it keeps its place. A spot in `fresh` has these rows, any other spot those that
+    /// stood under its leaf name, and all other rows of the table go. `NoMemory` leaves the directory's database and the session as they
+    /// were. After `Fault` the session is no longer live.
+    pub fn alter_table<H: Host>(
+        &mut self,
+        host: &mut H,
+        name: &Ident,
+        def: &TableDef,
+        fresh: &List<(Spot, Rows)>,
+    ) -> Result<(), Stop>
+        requires open { IsOpen self.old }
+        requires change { IsAlter (def_of self.old) name.now def.now fresh.now }
+        requires stands { H.tells → HasMap self.old (H.world host.old) }
+        // At every moment, whatever is answered, the directory stands for the old map or another one; of a database that the old map
+        // held, the other holds the one with the altered table.
+        ensures told { H.tells → (map : FileList) → IsStore self.old.store map (H.world host.old) → (next : FileList) × IsStep self.new.store map next (H.world host.old) (H.world host.new) result × (IsOver self.old (by_name map) → IsOverAfter self.new map next result) × ((db later : Db) → StandsIn self.old map db → IsAlterOf name.now def.now fresh.now db later → Leaves self.new map next db later result) }
+        ensures open { IsOpenAfter self.old self.new result }
+        ensures after { OnOk result (HasAltered H.tells self.old self.new (H.world host.new) name.now def.now fresh.now) }
+        ensures bad { IfBad result (λ name place. IsWhole name place × (H.tells → ⊥)) }
+        ensures counts { IsCounted (H.counts host.old) (H.counts host.new) result }
+    {
+        let altering = altering(self.alloc, self, name, def, fresh)?;
+        self.store.reshape(host, &altering.fresh, &altering.chain)?;
+        put_again(&mut self.tables, TableName { ident: *name }, altering.def);
+        Ok(())
+    }
+
+    /// Lets the rows of a table's spot and all rows of the other table, which is unpartitioned, change sides. `NoMemory` leaves the
+    /// directory's database and the session as they were. After `Fault` the session is no longer live.
+    pub fn exchange<H: Host>(
+        &mut self,
+        host: &mut H,
+        name: &Ident,
+        spot: Spot,
+        other: &Ident,
+    ) -> Result<(), Stop>
+        requires open { IsOpen self.old }
+        requires change { IsExchange (def_of self.old) name.now spot other.now }
+        requires stands { H.tells → HasMap self.old (H.world host.old) }
+        // At every moment, whatever is answered, the directory stands for the old map or another one; of a database that the old map
+        // held, the other holds the one with the rows exchanged.
+        ensures told { H.tells → (map : FileList) → IsStore self.old.store map (H.world host.old) → (next : FileList) × IsStep self.new.store map next (H.world host.old) (H.world host.new) result × (IsOver self.old (by_name map) → IsOverAfter self.new map next result) × ((db later : Db) → StandsIn self.old map db → IsExchangeOf name.now spot other.now db later → Leaves self.new map next db later result) }
+        ensures open { IsOpenAfter self.old self.new result }
+        ensures same { tables_of self.new ≡ tables_of self.old }
+        ensures bad { IfBad result (λ name place. IsWhole name place × (H.tells → ⊥)) }
+        ensures counts { IsCounted (H.counts host.old) (H.counts host.new) result }
+    {
+        let chain = exchanging(self.alloc, self, name, spot, other)?;
+        self.store.reshape(host, &List::new(self.alloc), &chain)?;
         Ok(())
     }
 

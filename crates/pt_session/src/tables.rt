@@ -1,20 +1,22 @@
 //! The definitions of tables by name, which are kept in the order in which they came.
-ghost use Rattle.std.specs.Prelude.{◌≡◌, nat_eq, IsTrue};
+ghost use Rattle.std.specs.Prelude.{◌≡◌, nat_eq, IsTrue, Some, refl};
 ghost use Rattle.std.specs.Cmp.{partial_equiv_from_equiv};
-ghost use Rattle.std.specs.Cmp.Lexicographic.{pointwise, nat_list_eq_equiv};
+ghost use Rattle.std.specs.Cmp.Lexicographic.{pointwise, slice_cmp, nat_list_eq_equiv, nat_list_cmp_total, texts_po, texts_ties};
+ghost use Rattle.std.specs.Ordering.{nat_cmp};
 ghost use Rattle.std.specs.Hash as fed;
 ghost use Rattle.pt_session.specs.Hashed.{alike_names};
 
 use indexmap::IndexMap;
 use pt_ast::TableDef;
 use pt_value::Ident;
+use std::cmp::Ordering;
 use std::hash::{Hash, Hasher};
 use std::marker::Model;
 
 /// Definitions by the names of their tables.
 pub(crate) type TableDefs = IndexMap<TableName, TableDef>;
 
-/// The name of a table as a key: it is hashed.
+/// The name of a table as a key: it is hashed, and ordered by its bytes.
 #[derive(Drop)]
 pub(crate) struct TableName {
     pub(crate) ident: Ident,
@@ -40,6 +42,30 @@ impl PartialEq for TableName {
 
 impl Eq for TableName {
     ghost laws = { nat_list_eq_equiv };
+}
+
+impl PartialOrd for TableName {
+    ghost partial_cmp = { λ a b. Some (slice_cmp nat_cmp a b) };
+
+    ghost laws = { texts_po };
+
+    fn partial_cmp(&self, other: &TableName) -> Option<Ordering> {
+        Some(self.cmp(other))
+    }
+}
+
+impl Ord for TableName {
+    ghost cmp = { slice_cmp nat_cmp };
+
+    ghost total = { nat_list_cmp_total };
+
+    ghost matches_partial_cmp = { λ a b. refl };
+
+    ghost matches_eq = { texts_ties };
+
+    fn cmp(&self, other: &TableName) -> Ordering {
+        self.ident.cmp(&other.ident)
+    }
 }
 
 impl Hash for TableName {
