@@ -29,7 +29,7 @@ items_checked : (table : List ℕ) (columns : List Column) (items : Option (List
 items_checked table columns (Some exprs) e = exprs_checked table columns exprs e
 items_checked table columns None e = tt
 
-cond_checked : (table : List ℕ) (columns : List Column) (cond : Option Cond) → bad_cond table columns cond ≡ None → IsCheckedCond columns cond
+pub cond_checked : (table : List ℕ) (columns : List Column) (cond : Option Cond) → bad_cond table columns cond ≡ None → IsCheckedCond columns cond
 cond_checked table columns (Some cond) e = without_fault _ _ e
 cond_checked table columns None e = tt
 

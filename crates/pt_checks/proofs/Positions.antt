@@ -23,7 +23,7 @@ range_from a (suc n) top is = All-cons (λ at. at < top) a (range_with_len (a + 
 pub all_below : {A : Type 0} (xs ys : List A) (found : List ℕ) → xs ≡ ys → found ≡ range_with_len 0 (length xs) → All (λ at. at < length ys) found
 all_below xs ys found same is = rw (is, same) (range_from 0 (length ys) (length ys) (omega arith))
 
-found_below : (columns : List Column) (name : List ℕ) (at : ℕ) → column_of columns name ≡ Some at → at < length columns
+pub found_below : (columns : List Column) (name : List ℕ) (at : ℕ) → column_of columns name ≡ Some at → at < length columns
 found_below [] name at e = cc
 found_below (column ∷ columns) name at e = (position-Some (is_named name) (column ∷ columns) at column e).0
 

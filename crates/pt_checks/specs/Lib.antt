@@ -2,7 +2,9 @@ pub mod Faults
 pub mod Named
 pub mod Cells
 pub mod Queries
+pub mod Assigned
 pub mod Ordered
 pub mod Wanted
 pub mod Printed
 pub mod Given
+pub mod Assigning

@@ -135,7 +135,7 @@ fn defaults(alloc: Global, columns: &[Column]) -> Result<Vec<Value>, AllocError>
 }
 
 /// The default of a column, NULL where there is none.
-fn default_of(alloc: Global, column: &Column) -> Result<Value, AllocError>
+pub(crate) fn default_of(alloc: Global, column: &Column) -> Result<Value, AllocError>
     ensures { IfOk result (λ value. value ≡ default_of column.now) }
 {
     match &column.default {
@@ -157,7 +157,7 @@ fn lacks_value(columns: &[Column], cells: &[Value]) -> bool
     false
 }
 
-fn is_lacking(column: &Column, value: &Value) -> bool
+pub(crate) fn is_lacking(column: &Column, value: &Value) -> bool
     ensures { result ≡ (column.now.not_null && is_null value.now) }
 {
     column.not_null && is_null(value)

@@ -45,7 +45,7 @@ pub(crate) fn value_of(alloc: Global, kind: Kind, expr: &Expr) -> Result<Value, 
 }
 
 /// A value of a calculation that a column has room for.
-fn kept(alloc: Global, kind: Kind, cell: Cell) -> Result<Value, AllocError>
+pub(crate) fn kept(alloc: Global, kind: Kind, cell: Cell) -> Result<Value, AllocError>
     requires { Fits kind (lent cell) }
     ensures { IfOk result (λ value. value ≡ lent cell.entry) }
 {
@@ -58,7 +58,7 @@ fn kept(alloc: Global, kind: Kind, cell: Cell) -> Result<Value, AllocError>
 }
 
 /// Whether a column of this kind has room for a value, or is of another kind.
-fn is_in_range(kind: Kind, cell: Cell) -> bool
+pub(crate) fn is_in_range(kind: Kind, cell: Cell) -> bool
     ensures { result ≡ is_in_range kind (lent cell.entry) }
 {
     match cell {
@@ -69,14 +69,14 @@ fn is_in_range(kind: Kind, cell: Cell) -> bool
     }
 }
 
-fn is_date(kind: Kind) -> bool
+pub(crate) fn is_date(kind: Kind) -> bool
     ensures { result ≡ is_date kind }
 {
     matches!(kind, Kind::Date)
 }
 
 /// Whether a column takes expressions of this kind; NULL has every kind.
-fn has_kind(kind: Kind, own: ExprKind) -> bool
+pub(crate) fn has_kind(kind: Kind, own: ExprKind) -> bool
     ensures { result ≡ has_kind kind own }
 {
     match (kind, own) {

@@ -1,8 +1,7 @@
-pub mod OneBook
-pub mod Spots
-pub mod Puts
+pub mod Lists
+pub mod Now
+pub mod Rounds
+pub mod Adding
 pub mod Models
-pub mod Tables
 pub mod Changes
 pub mod Ends
-pub mod Exits

@@ -1,14 +1,15 @@
-//! What is refused of an INSERT and of each of its rows by itself.
-ghost use Rattle.std.specs.Prelude.{◌≡◌, ◌<◌, All, length, IfOk};
+//! What is refused of an INSERT or a REPLACE, and of each of its rows by itself.
+ghost use Rattle.std.specs.Prelude.{◌≡◌, ◌<◌, None, All, length, IfOk};
 ghost use Rattle.pt_place.specs.Valid.{IsValid};
 ghost use Rattle.pt_checks.specs.Given.{Gives};
 ghost use Rattle.pt_checks.specs.Named.{targets as targets_of};
-ghost use Rattle.pt_checks.specs.Wanted.{is_named_spot};
-ghost use Rattle.pt_dml.specs.Parts.{IsPlaced, checked, placed_row};
+ghost use Rattle.pt_dml.specs.Parts.{IsPlacedRow, checked, placed_row, skipped_by};
 
-use pt_ast::{Cells, Idents, NewRows, Refusal, Spot, TableDef, ValueSpecs};
+use pt_ast::{Cells, NewRows, Refusal, Spot, TableDef, ValueSpecs};
+use pt_books::is_named_spot;
 use pt_checks::{CellsFault, Targets, bad_columns, bad_parts, new_cells, targets};
-use pt_place::{in_set, place};
+use pt_flat::InsertMode;
+use pt_place::place;
 use std::alloc::Global;
 
 /// The positions of the columns that the values of a row are for, where the PARTITION list and the list of columns are right.
@@ -27,37 +28,40 @@ pub(crate) fn checked(alloc: Global, def: &TableDef, new: &NewRows) -> Result<Ta
     Ok(found)
 }
 
-/// The spot and the cells of the row of this number, or why it has none.
+/// The spot and the cells of the row of this number, or why it has none. `None` where it is passed over.
 pub(crate) fn placed_row(
     alloc: Global,
+    mode: InsertMode,
     def: &TableDef,
     new: &NewRows,
     targets: &Targets,
     number: u64,
     values: &ValueSpecs,
-) -> Result<(Spot, Cells), CellsFault>
+) -> Result<Option<(Spot, Cells)>, CellsFault>
     requires valid { IsValid def.now }
     requires targets { targets.now ≡ targets_of def.now new.now.columns }
     requires below { All (λ at. at < length def.now.columns) targets.now }
-    ensures gives { Gives (placed_row def.now new.now number values.now) result }
-    ensures placed { IfOk result (λ row. IsPlaced def.now row.0 row.1) }
+    ensures gives { Gives (placed_row mode def.now new.now number values.now) result }
+    ensures placed { IfOk result (IsPlacedRow def.now) }
 {
     let cells = new_cells(alloc, def, targets, number, values)?;
     let Some(spot) = place(def, &cells) else {
-        return Err(CellsFault::Refused(Refusal::NoPartition(number)));
+        return skipped_by(mode, Refusal::NoPartition(number));
     };
     if !is_named_spot(def, &new.parts, spot) {
-        return Err(CellsFault::Refused(Refusal::NotInGivenSet(number)));
+        return skipped_by(mode, Refusal::NotInGivenSet(number));
     }
-    Ok((spot, cells))
+    Ok(Some((spot, cells)))
 }
 
-/// Whether the spot is one of the partitions that the statement names, if it names some.
-fn is_named_spot(def: &TableDef, parts: &Option<Idents>, spot: Spot) -> bool
-    ensures { result ≡ is_named_spot def.now parts.now spot }
+/// IGNORE passes over a row that is refused so.
+fn skipped_by(mode: InsertMode, refusal: Refusal) -> Result<Option<(Spot, Cells)>, CellsFault>
+    ensures gives { Gives (skipped_by mode refusal) result }
+    ensures none { IfOk result (λ row. row ≡ None) }
 {
-    match parts {
-        Some(names) => in_set(def, names.items(), spot),
-        None => in_set(def, &[], spot),
+    match mode {
+        InsertMode::Skip => Ok(None),
+        InsertMode::Refuse => Err(CellsFault::Refused(refusal)),
+        InsertMode::Replace => Err(CellsFault::Refused(refusal)),
     }
 }

@@ -27,10 +27,12 @@ pub fn execute<H: Host>(session: &mut Session, host: &mut H, stmt: &Stmt) -> Res
         Stmt::Create(_, _, _) | Stmt::Like(_, _, _) | Stmt::Drop(_, _) => {
             pt_alter::execute(session, host, stmt)
         }
-        Stmt::Insert(false, _) => pt_dml::execute(session, host, stmt),
+        Stmt::Insert(_, _) | Stmt::Replace(_) => pt_dml::execute(session, host, stmt),
+        Stmt::Update(_, _, _, _) | Stmt::Delete(_, _, _) => {
+            pt_update::execute(session, host, stmt)
+        }
         Stmt::Select(_) | Stmt::Show(_) => pt_select::execute(session, host, stmt),
-        Stmt::Insert(true, _)
-        | Stmt::AddParts(_, _)
+        Stmt::AddParts(_, _)
         | Stmt::AddCount(_, _)
         | Stmt::DropParts(_, _)
         | Stmt::Truncate(_, _)
@@ -39,9 +41,6 @@ pub fn execute<H: Host>(session: &mut Session, host: &mut H, stmt: &Stmt) -> Res
         | Stmt::Exchange(_, _, _)
         | Stmt::RemoveParts(_)
         | Stmt::PartitionBy(_, _)
-        | Stmt::Replace(_)
-        | Stmt::Update(_, _, _, _)
-        | Stmt::Delete(_, _, _)
         | Stmt::Explain(_) => unreachable!(),
     }
 }

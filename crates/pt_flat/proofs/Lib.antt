@@ -1,3 +1,4 @@
 pub mod Agreeing
 pub mod Growing
 pub mod Taken
+pub mod Renewing

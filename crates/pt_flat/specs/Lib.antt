@@ -4,7 +4,11 @@ pub mod Like
 pub mod DropTable
 pub mod Show
 pub mod Insert
+pub mod Replace
+pub mod Update
+pub mod Delete
 pub mod Growth
+pub mod Renewal
 pub mod Filled
 pub mod Select
 pub mod Step

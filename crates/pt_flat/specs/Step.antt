@@ -11,6 +11,9 @@ use Rattle.pt_flat.specs.Like.{like}
 use Rattle.pt_flat.specs.DropTable.{drop_table}
 use Rattle.pt_flat.specs.Show.{show}
 use Rattle.pt_flat.specs.Insert.{insert}
+use Rattle.pt_flat.specs.Replace.{replace}
+use Rattle.pt_flat.specs.Update.{update}
+use Rattle.pt_flat.specs.Delete.{delete}
 use Rattle.pt_flat.specs.Select.{select}
 
 -- The statements that have a step so far. The others come with later definitions.
@@ -19,7 +22,10 @@ is_covered (stmt.Create if_not table spec) = true
 is_covered (stmt.Like if_not table other) = true
 is_covered (stmt.Drop if_there table) = true
 is_covered (stmt.Show table) = true
-is_covered (stmt.Insert false new) = true
+is_covered (stmt.Insert ignore new) = true
+is_covered (stmt.Replace new) = true
+is_covered (stmt.Update table parts assigns tail) = true
+is_covered (stmt.Delete table parts tail) = true
 is_covered (stmt.Select query) = true
 is_covered _ = false
 
@@ -29,7 +35,10 @@ step db (stmt.Create if_not table spec) = create if_not db table spec
 step db (stmt.Like if_not table other) = like if_not db table other
 step db (stmt.Drop if_there table) = drop_table if_there db table
 step db (stmt.Show table) = show db table
-step db (stmt.Insert false new) = insert db new
+step db (stmt.Insert ignore new) = insert ignore db new
+step db (stmt.Replace new) = replace db new
+step db (stmt.Update table parts assigns tail) = update db table parts assigns tail
+step db (stmt.Delete table parts tail) = delete db table parts tail
 step db (stmt.Select query) = select db query
 step db _ = nothing_done db
 

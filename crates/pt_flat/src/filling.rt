@@ -1,4 +1,6 @@
-ghost use Rattle.std.specs.Prelude.{◌≡◌, ◌<◌, ◌^◌, All, false, length, IfOk, OnOk};
+ghost use Rattle.std.specs.Prelude.{◌≡◌, ◌+◌, ◌<◌, ◌^◌, All, Some, Result, false, filter, length, not, IfOk, OnOk};
+ghost use Rattle.pt_ast.specs.Keys.{agrees};
+ghost use Rattle.pt_ast.specs.declared.refusal.Refusal.{Refusal as Why};
 ghost use Rattle.pt_expr.specs.Columns.{AreFitting};
 ghost use Rattle.pt_place.specs.Valid.{IsValid};
 ghost use Rattle.pt_checks.specs.Cells.{lacks_value};
@@ -6,29 +8,46 @@ ghost use Rattle.pt_checks.specs.Given.{Gives};
 ghost use Rattle.pt_checks.specs.Named.{targets as targets_of};
 ghost use Rattle.pt_checks.specs.Wanted.{is_named_spot};
 ghost use Rattle.pt_flat.specs.Filled.{Fills};
-ghost use Rattle.pt_flat.specs.Growth.{IsGrown, IsSoundFilling};
-ghost use Rattle.pt_flat.specs.Insert.{bad_cells, fill, fill_cells, fill_row, with_added};
+ghost use Rattle.pt_flat.specs.Growth.{IsCounted, IsGrown, IsSoundFilling};
+ghost use Rattle.pt_flat.specs.Insert.{bad_cells, bad_place, cleared, fill, fill_cells, fill_row, skipped_or, with_added, with_deleted};
+ghost use Rattle.pt_flat.specs.declared.filling.Filling.{Filling as Filled};
 
-use crate::keys::is_taken;
+use crate::keys::{agrees, is_taken};
 use pt_ast::{Cells, Idents, NewRows, Refusal, Row, Rows, Spot, TableDef, ValueSpecs};
 use pt_checks::{CellsFault, Targets, new_cells};
 use pt_place::{in_set, place};
 use std::alloc::{AllocError, Global};
+use std::mem::{drop, replace};
 
 /// Every serial is below it.
 const SERIALS_END: u64 = 1 << 62;
 
-/// Rows that are being inserted: the table's rows so far, the serial that the next one takes, and how many were inserted.
+/// What becomes of a new row that can't stand beside the rows that are there, or has no place among them.
+#[derive(Clone, Copy)]
+pub enum InsertMode {
+    /// `INSERT`: the statement is refused.
+    Refuse,
+    /// `INSERT IGNORE`: the row is passed over.
+    Skip,
+    /// `REPLACE`: the rows that agree with it on a unique key are deleted first. Without a place the statement is refused.
+    Replace,
+}
+
+/// Rows that are being inserted: the table's rows so far, the serial that the next one takes, and how many were inserted, passed over and
+/// deleted.
 #[derive(Drop)]
 pub struct Filling {
     pub rows: Rows,
     pub next: u64,
     pub added: u64,
+    pub skipped: u64,
+    pub deleted: u64,
 }
 
 /// Inserts these rows of VALUES, one after the other.
 pub(crate) fn fill(
     alloc: Global,
+    mode: InsertMode,
     def: &TableDef,
     new: &NewRows,
     rows: &[ValueSpecs],
@@ -39,7 +58,8 @@ pub(crate) fn fill(
     requires targets { targets.now ≡ targets_of def.now new.now.columns }
     requires below { All (λ at. at < length def.now.columns) targets.now }
     requires sound { IsSoundFilling def.now start }
-    ensures filled { Gives (fill def.now new.now 1 start rows.now) result }
+    requires counted { IsCounted 1 start }
+    ensures filled { Gives (fill mode def.now new.now 1 start rows.now) result }
     ensures sound { IfOk result (IsSoundFilling def.now) }
     ensures grown { IfOk result (IsGrown start) }
 {
@@ -47,6 +67,7 @@ pub(crate) fn fill(
     for (at, values) in rows.iter().enumerate() {
         fill_row(
             alloc,
+            mode,
             def,
             new,
             targets,
@@ -61,6 +82,7 @@ pub(crate) fn fill(
 /// Inserts the row of this number.
 fn fill_row(
     alloc: Global,
+    mode: InsertMode,
     def: &TableDef,
     new: &NewRows,
     targets: &Targets,
@@ -72,16 +94,20 @@ fn fill_row(
     requires targets { targets.now ≡ targets_of def.now new.now.columns }
     requires below { All (λ at. at < length def.now.columns) targets.now }
     requires sound { IsSoundFilling def.now filling.old }
-    ensures filled { Fills (fill_row def.now new.now number filling.old values.now) filling.new result }
+    requires counted { IsCounted number filling.old }
+    ensures filled { Fills (fill_row mode def.now new.now number filling.old values.now) filling.new result }
     ensures sound { OnOk result (IsSoundFilling def.now filling.new) }
     ensures grown { OnOk result (IsGrown filling.old filling.new) }
+    ensures counted { OnOk result (IsCounted (number + 1) filling.new) }
 {
     let cells = new_cells(alloc, def, targets, number, values)?;
-    fill_cells(def, new, number, cells, filling)
+    fill_cells(alloc, mode, def, new, number, cells, filling)
 }
 
-/// Inserts a row of these cells.
+/// Inserts a row of these cells, or passes it over.
 fn fill_cells(
+    alloc: Global,
+    mode: InsertMode,
     def: &TableDef,
     new: &NewRows,
     number: u64,
@@ -92,12 +118,33 @@ fn fill_cells(
     requires fitting { AreFitting def.now.columns cells }
     requires whole { lacks_value def.now.columns cells ≡ false }
     requires sound { IsSoundFilling def.now filling.old }
-    ensures filled { Fills (fill_cells def.now new.now number filling.old cells) filling.new result }
+    requires counted { IsCounted number filling.old }
+    ensures filled { Fills (fill_cells mode def.now new.now number filling.old cells) filling.new result }
     ensures sound { OnOk result (IsSoundFilling def.now filling.new) }
     ensures grown { OnOk result (IsGrown filling.old filling.new) }
+    ensures counted { OnOk result (IsCounted (number + 1) filling.new) }
 {
-    if let Some(refusal) = bad_cells(def, new, number, filling.rows.items(), &cells) {
-        return Err(CellsFault::Refused(refusal));
+    put_cells(alloc, mode, def, new, number, cells, filling)
+}
+
+fn put_cells(
+    alloc: Global,
+    mode: InsertMode,
+    def: &TableDef,
+    new: &NewRows,
+    number: u64,
+    cells: Cells,
+    filling: &mut Filling,
+) -> Result<(), CellsFault>
+    requires valid { IsValid def.now }
+    requires fitting { AreFitting def.now.columns cells }
+    requires sound { IsSoundFilling def.now filling.old }
+    requires counted { IsCounted number filling.old }
+    ensures { Fills (fill_cells mode def.now new.now number filling.old cells) filling.new result }
+{
+    clear(alloc, mode, def, &cells, filling)?;
+    if let Some(refusal) = bad_cells(def, &new.parts, number, filling.rows.items(), &cells) {
+        return skip_or(mode, refusal, filling);
     }
     if filling.next >= SERIALS_END {
         return Err(CellsFault::Refused(Refusal::SerialsUsed(number)));
@@ -106,26 +153,110 @@ fn fill_cells(
     Ok(())
 }
 
+/// For REPLACE, deletes the rows that agree with these cells on a unique key.
+fn clear(
+    alloc: Global,
+    mode: InsertMode,
+    def: &TableDef,
+    cells: &Cells,
+    filling: &mut Filling,
+) -> Result<(), AllocError>
+    requires { filling.old.deleted + length filling.old.rows < 2 ^ 62 }
+    ensures { OnOk result (filling.new ≡ cleared mode def.now cells.now filling.old) }
+{
+    match mode {
+        InsertMode::Refuse => Ok(()),
+        InsertMode::Skip => Ok(()),
+        InsertMode::Replace => delete_agreeing(alloc, def, cells, filling),
+    }
+}
+
+fn delete_agreeing(
+    alloc: Global,
+    def: &TableDef,
+    cells: &Cells,
+    filling: &mut Filling,
+) -> Result<(), AllocError>
+    requires { filling.old.deleted + length filling.old.rows < 2 ^ 62 }
+    ensures { OnOk result (filling.new ≡ with_deleted def.now cells.now filling.old) }
+{
+    let rows = not_agreeing(alloc, def, cells, filling.rows.items())?;
+    let deleted = filling.rows.items().len() - rows.items().len();
+    filling.deleted += deleted as u64;
+    drop(replace(&mut filling.rows, rows));
+    Ok(())
+}
+
+/// The rows that don't agree with these cells on a unique key.
+fn not_agreeing(
+    alloc: Global,
+    def: &TableDef,
+    cells: &Cells,
+    rows: &[Row],
+) -> Result<Rows, AllocError>
+    ensures { IfOk result (λ kept. kept ≡ filter (λ row. not (agrees def.now cells.now row.cells)) rows.now) }
+{
+    let mut kept = Rows::new(alloc);
+    for row in rows {
+        if !agrees(def, cells, &row.cells) {
+            kept.push(row.copy(alloc)?)?;
+        }
+    }
+    Ok(kept)
+}
+
+/// Passes over a row that is refused, for IGNORE.
+fn skip_or(mode: InsertMode, refusal: Refusal, filling: &mut Filling) -> Result<(), CellsFault>
+    requires { filling.old.skipped + 1 < 2 ^ 64 }
+    ensures { (next : Result Filled Why) → Fills (skipped_or mode (Some refusal) filling.old next) filling.new result }
+{
+    match mode {
+        InsertMode::Skip => {
+            filling.skipped += 1;
+            Ok(())
+        }
+        InsertMode::Refuse => Err(CellsFault::Refused(refusal)),
+        InsertMode::Replace => Err(CellsFault::Refused(refusal)),
+    }
+}
+
 /// What is refused of a row of these cells beside these rows.
 fn bad_cells(
     def: &TableDef,
-    new: &NewRows,
+    parts: &Option<Idents>,
     number: u64,
     rows: &[Row],
     cells: &Cells,
 ) -> Option<Refusal>
     requires valid { IsValid def.now }
     requires fitting { AreFitting def.now.columns cells.now }
-    ensures { result ≡ bad_cells def.now new.now number rows.now cells.now }
+    ensures { result ≡ bad_cells def.now parts.now number rows.now cells.now }
+{
+    if let Some(refusal) = bad_place(def, parts, number, cells) {
+        return Some(refusal);
+    }
+    if is_taken(def, cells, rows) {
+        return Some(Refusal::DuplicateKey(number));
+    }
+    None
+}
+
+/// What is refused of the place of these cells: there is none, or it isn't among those that the statement names.
+pub(crate) fn bad_place(
+    def: &TableDef,
+    parts: &Option<Idents>,
+    number: u64,
+    cells: &Cells,
+) -> Option<Refusal>
+    requires valid { IsValid def.now }
+    requires fitting { AreFitting def.now.columns cells.now }
+    ensures { result ≡ bad_place def.now parts.now number cells.now }
 {
     let Some(spot) = place(def, cells) else {
         return Some(Refusal::NoPartition(number));
     };
-    if !is_named_spot(def, &new.parts, spot) {
+    if !is_named_spot(def, parts, spot) {
         return Some(Refusal::NotInGivenSet(number));
-    }
-    if is_taken(def, cells, rows) {
-        return Some(Refusal::DuplicateKey(number));
     }
     None
 }

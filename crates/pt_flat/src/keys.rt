@@ -1,6 +1,7 @@
-ghost use Rattle.std.specs.Prelude.{◌≡◌, ◌&&◌, slice_index_or};
+ghost use Rattle.std.specs.Prelude.{◌≡◌, ◌&&◌, not, slice_index_or};
 ghost use Rattle.std.specs.List.{list_any};
 ghost use Rattle.pt_ast.specs.Keys.{agree, agrees, is_alike, is_taken, is_unique};
+ghost use Rattle.pt_db.specs.Rows.{is_numbered, others};
 
 use pt_ast::{Cells, ColumnNos, KeyDef, Rank, Row, TableDef};
 use pt_value::Value;
@@ -17,8 +18,28 @@ pub(crate) fn is_taken(def: &TableDef, cells: &Cells, rows: &[Row]) -> bool
     false
 }
 
+/// Whether one of these rows, but for the one of this serial, agrees with these cells on a unique key.
+#[tactic(auto, using(crate::proofs::Agreeing::any_other))]
+pub(crate) fn is_taken_beside(def: &TableDef, serial: u64, cells: &Cells, rows: &[Row]) -> bool
+    ensures { result ≡ is_taken def.now cells.now (others serial rows.now) }
+{
+    another_agrees(def, serial, cells, rows)
+}
+
+fn another_agrees(def: &TableDef, serial: u64, cells: &Cells, rows: &[Row]) -> bool
+    ensures { result ≡ list_any (λ row. not (is_numbered serial row) && agrees def.now cells.now row.cells) rows.now }
+{
+    for row in rows {
+        if row.serial != serial && agrees(def, cells, &row.cells) {
+            return true;
+        }
+    }
+    false
+}
+
+/// Whether the cells agree on a unique key.
 #[tactic(auto, using(crate::proofs::Agreeing::any_unique))]
-fn agrees(def: &TableDef, a: &Cells, b: &Cells) -> bool
+pub(crate) fn agrees(def: &TableDef, a: &Cells, b: &Cells) -> bool
     ensures { result ≡ agrees def.now a.now b.now }
 {
     agree_on_some(def.keys.items(), a, b)

@@ -4,9 +4,12 @@ ghost use Rattle.pt_db.specs.Sound.{IsSound};
 ghost use Rattle.pt_flat.specs.Step.{after, answer, is_covered};
 
 use crate::definitions::{create, drop_table, like};
-use crate::inserting::insert;
+use crate::deleting::delete;
+use crate::filling::InsertMode;
+use crate::inserting::{insert_mode, insert_rows};
 use crate::selecting::select;
 use crate::shown::show;
+use crate::updating::update;
 use pt_ast::{Db, Reply, Stmt};
 use pt_db::ok_reply;
 use std::alloc::{AllocError, Global};
@@ -25,11 +28,15 @@ pub fn step(alloc: Global, db: &mut Db, stmt: &Stmt) -> Result<Reply, AllocError
         Stmt::Create(if_not, table, spec) => create(alloc, db, *if_not, table, spec),
         Stmt::Like(if_not, table, other) => like(alloc, db, *if_not, table, other),
         Stmt::Drop(if_there, table) => drop_table(alloc, db, *if_there, table),
-        Stmt::Insert(false, new) => insert(alloc, db, new),
+        Stmt::Insert(ignore, new) => insert_rows(alloc, db, insert_mode(*ignore), new),
+        Stmt::Replace(new) => insert_rows(alloc, db, InsertMode::Replace, new),
+        Stmt::Update(table, parts, assigns, tail) => {
+            update(alloc, db, table, parts, assigns, tail)
+        }
+        Stmt::Delete(table, parts, tail) => delete(alloc, db, table, parts, tail),
         Stmt::Select(query) => select(alloc, db, query),
         Stmt::Show(table) => show(alloc, db, table),
-        Stmt::Insert(true, _)
-        | Stmt::AddParts(_, _)
+        Stmt::AddParts(_, _)
         | Stmt::AddCount(_, _)
         | Stmt::DropParts(_, _)
         | Stmt::Truncate(_, _)
@@ -38,9 +45,6 @@ pub fn step(alloc: Global, db: &mut Db, stmt: &Stmt) -> Result<Reply, AllocError
         | Stmt::Exchange(_, _, _)
         | Stmt::RemoveParts(_)
         | Stmt::PartitionBy(_, _)
-        | Stmt::Replace(_)
-        | Stmt::Update(_, _, _, _)
-        | Stmt::Delete(_, _, _)
         | Stmt::Explain(_) => ok_reply(alloc),
     }
 }
@@ -54,10 +58,12 @@ pub fn is_covered(stmt: &Stmt) -> bool
         | Stmt::Like(_, _, _)
         | Stmt::Drop(_, _)
         | Stmt::Show(_)
-        | Stmt::Insert(false, _)
+        | Stmt::Insert(_, _)
+        | Stmt::Replace(_)
+        | Stmt::Update(_, _, _, _)
+        | Stmt::Delete(_, _, _)
         | Stmt::Select(_) => true,
-        Stmt::Insert(true, _)
-        | Stmt::AddParts(_, _)
+        Stmt::AddParts(_, _)
         | Stmt::AddCount(_, _)
         | Stmt::DropParts(_, _)
         | Stmt::Truncate(_, _)
@@ -66,9 +72,6 @@ pub fn is_covered(stmt: &Stmt) -> bool
         | Stmt::Exchange(_, _, _)
         | Stmt::RemoveParts(_)
         | Stmt::PartitionBy(_, _)
-        | Stmt::Replace(_)
-        | Stmt::Update(_, _, _, _)
-        | Stmt::Delete(_, _, _)
         | Stmt::Explain(_) => false,
     }
 }

@@ -172,7 +172,7 @@ module _ (expr : Reader Expr) (sound : (ts : Symbols) → Sound IsExpr ts (expr 
       (optional-sound (InTuple IsSubpart) subparts subparts-sound (past_options (optional (valued expr) us).1)))
   part-sound _ = tt
 
-  parts-sound : (ts : Symbols) → Sound (InTuple IsPart) ts (parts_of expr ts)
+  pub parts-sound : (ts : Symbols) → Sound (InTuple IsPart) ts (parts_of expr ts)
   parts-sound ts = tuple-sound IsPart (part_of expr) part-sound ts
 
   part_behind_by-sound : (ts : Symbols) → Sound IsPartBy (the word.Partition ∷ ts) (part_behind_by expr ts)
@@ -330,7 +330,7 @@ module _ (expr : Reader Expr) (P : Symbols → Type 0) (tail : (s : Symbol) (ts 
       ∙ ap (λ (us : Symbols). with_subs name spec (optional subparts us)) (options-read os (subs-no_option s ends))
       ∙ ap (with_subs name spec) (optional-read (InTuple IsSubpart) subparts (λ x d. subparts-read d) (ends-no_subs ends) s))
 
-  parts-read : {ts rest : Symbols} {xs : List PartItem} → InTuple IsPart ts xs rest → P ts → parts_of expr ts ≡ Some (xs, rest)
+  pub parts-read : {ts rest : Symbols} {xs : List PartItem} → InTuple IsPart ts xs rest → P ts → parts_of expr ts ≡ Some (xs, rest)
   parts-read d p = tuple-read P tail IsPart (part_of expr) (λ ts rest x e. part-after e) part-read d p
 
   -- ---- the whole, at the end of the symbols

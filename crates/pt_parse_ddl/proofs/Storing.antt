@@ -34,7 +34,7 @@ use Rattle.pt_parse_expr.proofs.Storing.{IsStorableSymbol, expr-within}
 use Rattle.pt_parse_expr.proofs.StorableSymbols.{symbols-storable, symbols-count}
 use Rattle.pt_parse_ddl.specs.declared.words.Keyword.{Keyword}
 use Rattle.pt_parse_ddl.specs.Words.{IsName}
-use Rattle.pt_parse_ddl.specs.Lists.{IsOptional, absent, present, AreRepeated, no_more, again, AreFurther, no_further, further, listed, InParens, in_parens, InTuple}
+use Rattle.pt_parse_ddl.specs.Lists.{IsOptional, absent, present, AreRepeated, no_more, again, AreFurther, no_further, further, AreListed, listed, InParens, in_parens, InTuple}
 use Rattle.pt_parse_ddl.specs.Columns.{IsNumber, IsKind, IsLiteral, IsColOption, kept}
 use Rattle.pt_parse_ddl.specs.Columns as column
 use Rattle.pt_parse_ddl.specs.Keys.{AreColumns, IsItem}
@@ -77,9 +77,13 @@ pub further-counted : {A : Type 0} (R : Symbols → A → Symbols → Type 0) �
 further-counted R after no_further = omega arith
 further-counted R after (further {ts} {us} {rest} {x} d more) = omega (arith, shorter (after ts us x d), further-counted R after more)
 
+pub listed-counted : {A : Type 0} (R : Symbols → A → Symbols → Type 0) → ((ts rest : Symbols) (x : A) → R ts x rest → After ts rest)
+    → {ts rest : Symbols} {xs : List A} → AreListed R ts xs rest → Given ts → HasAtLeast 1 xs
+listed-counted R after (listed {ts} {us} {x = x} d more) g = (omega arith, omega (arith, g.few, shorter (after ts us x d), further-counted R after more))
+
 pub tuple-counted : {A : Type 0} (R : Symbols → A → Symbols → Type 0) → ((ts rest : Symbols) (x : A) → R ts x rest → After ts rest)
     → {ts rest : Symbols} {xs : List A} → InTuple R ts xs rest → Given ts → HasAtLeast 1 xs
-tuple-counted R after (in_parens (listed {ts} {us} {rest} {x} d more)) g = (omega arith, omega (arith, g.few, shorter (after ts us x d), further-counted R after more))
+tuple-counted R after (in_parens l) g = listed-counted R after l (given-tail _ _ g)
 
 repeated-counted : {A : Type 0} (R : Symbols → A → Symbols → Type 0) → ((ts rest : Symbols) (x : A) → R ts x rest → After ts rest)
     → {ts rest : Symbols} {xs : List A} → AreRepeated R ts xs rest → length xs ≤ length ts
@@ -178,7 +182,7 @@ main-stored (part.by_range_columns w c) g = columns-stored c (behind (word-after
 main-stored (part.by_list_columns w v c) g = columns-stored c (behind (word-after w ▸ word-after v) g)
 main-stored (part.by_number h) g = hash-stored h g
 
-count-stored : (k : Keyword) (ts rest : Symbols) (n : ℤ) → IsCount k ts n rest → Given ts → IsNotNegative n
+pub count-stored : (k : Keyword) (ts rest : Symbols) (n : ℤ) → IsCount k ts n rest → Given ts → IsNotNegative n
 count-stored k ts rest n (part.count w) g = (behind (word-after w) g).each.0
 
 sub-stored : (ts rest : Symbols) (x : SubSpec) → IsSub ts x rest → Given ts → IsStorableSub x
@@ -221,11 +225,11 @@ part-stored _ _ _ (part.part n v os s) g =
           (λ ts rest x d. tuple-counted IsSubpart (λ ts rest x e. subpart-after e) d) s i;
     }
 
-parts-stored : (ts rest : Symbols) (x : List PartItem) → InTuple IsPart ts x rest → Given ts → AreStorableParts x
+pub parts-stored : (ts rest : Symbols) (x : List PartItem) → InTuple IsPart ts x rest → Given ts → AreStorableParts x
 parts-stored ts rest x d g =
     (tuple-counted IsPart (λ ts rest x e. part-after e) d g, tuple-all IsPart (λ ts rest x e. part-after e) IsStorablePart part-stored d g)
 
-part_by-stored : (ts rest : Symbols) (x : PartSpec) → IsPartBy ts x rest → Given ts → IsStorablePartSpec x
+pub part_by-stored : (ts rest : Symbols) (x : PartSpec) → IsPartBy ts x rest → Given ts → IsStorablePartSpec x
 part_by-stored _ _ _ (part.part_by m n s ps) g =
     let h = given-tail _ _ (given-tail _ _ g) in
     let i = behind (main-after m) h in

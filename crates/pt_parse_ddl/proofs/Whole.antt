@@ -36,7 +36,7 @@ Level most ts = (height : ℕ) × IsShallow most height ts
 pub level-tail : (most : ℕ) (s : Symbol) (ts : Symbols) → Level most (s ∷ ts) → Level most ts
 level-tail most s ts (height, shallow) = (open_after s height, shallow.1)
 
-expr-exact : (most : ℕ) (ts rest : Symbols) (x : Expr) → IsExpr ts x rest → Ends rest → Level most ts → sum (found most) ts ≡ Some (x, rest)
+pub expr-exact : (most : ℕ) (ts rest : Symbols) (x : Expr) → IsExpr ts x rest → Ends rest → Level most ts → sum (found most) ts ≡ Some (x, rest)
 expr-exact most ts _ x d at_comma l = covers-exact (expr-covers d most most l.0 (omega arith) l.1) refl
 expr-exact most ts _ x d at_close l = covers-exact (expr-covers d most most l.0 (omega arith) l.1) refl
 
@@ -54,7 +54,7 @@ pub whole-sound : (ts : Symbols) → Sound IsExpr ts (whole ts)
 unfolding whole
 whole-sound ts = expr-sound 64 ts
 
-whole-exact : (ts rest : Symbols) (x : Expr) → IsExpr ts x rest → Ends rest → Level 64 ts → whole ts ≡ Some (x, rest)
+pub whole-exact : (ts rest : Symbols) (x : Expr) → IsExpr ts x rest → Ends rest → Level 64 ts → whole ts ≡ Some (x, rest)
 unfolding whole
 whole-exact ts rest x d ends l = expr-exact 64 ts rest x d ends l
 

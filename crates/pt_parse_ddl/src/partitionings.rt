@@ -13,23 +13,14 @@ use pt_parse_expr::{Mark, Reading, Reserved, Symbol, beside, closed, peek, read_
 use std::alloc::{AllocError, Global};
 
 /// An expression.
-#[tactic(auto, unfolding(crate::specs::Steps::whole))]
-pub(crate) fn value(alloc: Global, symbols: &[Symbol], at: usize) -> Reading<Expr>
-    requires { at ≤ length symbols.now }
-    ensures reads { Reads symbols.now result (steps.whole (drop at symbols.now)) }
-    ensures place { Reaches (at + 1) symbols.now result }
-{
-    read_expr(alloc, symbols, at)
-}
-
-/// An expression.
-struct ValueRule;
+pub(crate) struct ValueRule;
 
 impl Rule<Expr> for ValueRule {
     ghost reading = { steps.whole };
 
+    #[tactic(auto, unfolding(crate::specs::Steps::whole))]
     fn read(alloc: Global, symbols: &[Symbol], at: usize) -> Reading<Expr> {
-        value(alloc, symbols, at)
+        read_expr(alloc, symbols, at)
     }
 }
 
@@ -204,7 +195,7 @@ fn main_of(alloc: Global, symbols: &[Symbol], at: usize) -> Reading<MainSpec>
 
 /// A word, and the number behind it.
 #[tactic(auto, unfolding(crate::specs::PartReader::counted))]
-fn counted(symbols: &[Symbol], at: usize, keyword: Keyword) -> Option<(i128, usize)>
+pub fn counted(symbols: &[Symbol], at: usize, keyword: Keyword) -> Option<(i128, usize)>
     requires { at ≤ length symbols.now }
     ensures reads { ReadsSome symbols.now result (spec.counted keyword (drop at symbols.now)) }
     ensures place { ReachesSome (at + 1) symbols.now result }
@@ -273,7 +264,7 @@ impl Rule<SubSpec> for SubRule {
 }
 
 /// Definitions of partitions in parentheses.
-struct PartsRule;
+pub struct PartsRule;
 
 impl Rule<PartItems> for PartsRule {
     ghost reading = { spec.parts_of steps.whole };
@@ -329,27 +320,18 @@ fn part_behind_by(alloc: Global, symbols: &[Symbol], at: usize) -> Reading<PartS
 }
 
 /// A partitioning.
-#[tactic(auto, unfolding(crate::specs::PartReader::part_by))]
-fn part_by(alloc: Global, symbols: &[Symbol], at: usize) -> Reading<PartSpec>
-    requires { at ≤ length symbols.now }
-    ensures reads { Reads symbols.now result (spec.part_by steps.whole (drop at symbols.now)) }
-    ensures place { Reaches (at + 1) symbols.now result }
-{
-    match peek(symbols, at) {
-        Some(Symbol::Fixed(Mark::Other(Reserved::Partition))) => {
-            part_behind_by(alloc, symbols, at + 1)
-        }
-        _ => Ok(None),
-    }
-}
-
-/// A partitioning.
-pub(crate) struct PartByRule;
+pub struct PartByRule;
 
 impl Rule<PartSpec> for PartByRule {
     ghost reading = { spec.part_by steps.whole };
 
+    #[tactic(auto, unfolding(crate::specs::PartReader::part_by))]
     fn read(alloc: Global, symbols: &[Symbol], at: usize) -> Reading<PartSpec> {
-        part_by(alloc, symbols, at)
+        match peek(symbols, at) {
+            Some(Symbol::Fixed(Mark::Other(Reserved::Partition))) => {
+                part_behind_by(alloc, symbols, at + 1)
+            }
+            _ => Ok(None),
+        }
     }
 }

@@ -5,7 +5,7 @@ ghost use Rattle.pt_parse_ddl.specs.Steps as steps;
 ghost use Rattle.pt_parse_ddl.specs.Steps.{Passes, PassesTo};
 
 use crate::options::PartOption;
-use crate::partitionings::value;
+use crate::partitionings::ValueRule;
 use crate::rules::{Rule, listed, optional, skipped};
 use crate::words::{Keyword, name, word};
 use pt_ast::{BoundSpec, BoundSpecs, Entry, Idents, PartItem, ValuesSpec};
@@ -33,7 +33,7 @@ fn value_bound(alloc: Global, symbols: &[Symbol], at: usize) -> Reading<BoundSpe
     ensures reads { Reads symbols.now result (spec.value_bound steps.whole (drop at symbols.now)) }
     ensures place { Reaches (at + 1) symbols.now result }
 {
-    match value(alloc, symbols, at)? {
+    match ValueRule::read(alloc, symbols, at)? {
         None => Ok(None),
         Some((expr, next)) => Ok(Some((BoundSpec::Value(expr), next))),
     }

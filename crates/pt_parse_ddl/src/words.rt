@@ -10,22 +10,29 @@ use pt_parse_expr::{Reading, Symbol, peek};
 use pt_value::Ident;
 use std::alloc::Global;
 
-/// A word of definitions that is reserved nowhere: it may be a name as well.
+/// A word of definitions, and of changes of tables, that is reserved nowhere: it may be a name as well.
 #[derive(Clone, Copy)]
-pub(crate) enum Keyword {
+pub enum Keyword {
     Binary,
     Charset,
+    Coalesce,
     Columns,
     Comment,
     Date,
     Engine,
+    Exchange,
     Hash,
     Less,
     List,
+    Partitioning,
     Partitions,
+    Remove,
+    Reorganize,
     Subpartition,
     Subpartitions,
     Than,
+    Truncate,
+    Validation,
 }
 
 impl Keyword {
@@ -36,17 +43,24 @@ impl Keyword {
         match self {
             Keyword::Binary => b"BINARY",
             Keyword::Charset => b"CHARSET",
+            Keyword::Coalesce => b"COALESCE",
             Keyword::Columns => b"COLUMNS",
             Keyword::Comment => b"COMMENT",
             Keyword::Date => b"DATE",
             Keyword::Engine => b"ENGINE",
+            Keyword::Exchange => b"EXCHANGE",
             Keyword::Hash => b"HASH",
             Keyword::Less => b"LESS",
             Keyword::List => b"LIST",
+            Keyword::Partitioning => b"PARTITIONING",
             Keyword::Partitions => b"PARTITIONS",
+            Keyword::Remove => b"REMOVE",
+            Keyword::Reorganize => b"REORGANIZE",
             Keyword::Subpartition => b"SUBPARTITION",
             Keyword::Subpartitions => b"SUBPARTITIONS",
             Keyword::Than => b"THAN",
+            Keyword::Truncate => b"TRUNCATE",
+            Keyword::Validation => b"VALIDATION",
         }
     }
 
@@ -58,9 +72,9 @@ impl Keyword {
     }
 }
 
-/// The place behind a word of definitions, where it stands.
+/// The place behind a word that is reserved nowhere, where it stands.
 #[tactic(auto, unfolding(crate::specs::Steps::worded))]
-pub(crate) fn word(symbols: &[Symbol], at: usize, keyword: Keyword) -> Option<usize>
+pub fn word(symbols: &[Symbol], at: usize, keyword: Keyword) -> Option<usize>
     requires { at ≤ length symbols.now }
     ensures passes { Passes symbols.now result (spec.worded keyword (drop at symbols.now)) }
     ensures place { PassesTo (at + 1) symbols.now result }
@@ -110,7 +124,7 @@ impl Rule<i128> for NumberRule {
 }
 
 /// A name.
-pub(crate) struct NameRule;
+pub struct NameRule;
 
 impl Rule<Ident> for NameRule {
     ghost reading = { spec.named };

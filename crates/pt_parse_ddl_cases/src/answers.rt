@@ -4,6 +4,7 @@ ghost use Rattle.pt_token.specs.Tokens.{IsLexed};
 use crate::statements::put_stmt;
 use percent_encoding::percent_decode;
 use pt_ast::Stmt;
+use pt_parse_alter::{one_reading as one_reading_of_all, parse as change};
 use pt_parse_ddl::{one_statement, parse as definition};
 use pt_parse_dml::{one_reading, parse as on_rows};
 use pt_parse_expr::ParseFault;
@@ -43,6 +44,7 @@ pub(crate) fn answer(alloc: Global, line: &str) -> Result<String, AllocError> {
 fn laws_answer(alloc: Global) -> Result<String, AllocError> {
     one_statement();
     one_reading();
+    one_reading_of_all();
     String::from_str(alloc, "laws")
 }
 
@@ -108,13 +110,24 @@ fn read(alloc: Global, piece: &[u8]) -> Result<Stmt, PieceFault> {
     either(alloc, piece, &tokens).map_err(PieceFault::Tokens)
 }
 
-/// The definition that the tokens spell, or the statement on rows.
+/// The definition that the tokens spell, the statement on rows, or the change of a table.
 fn either(alloc: Global, piece: &[u8], tokens: &Vec<Token>) -> Result<Stmt, ParseFault>
     requires small { length piece.now ≤ 2 ^ 20 }
     requires lexed { IsLexed piece.now tokens.now.items }
 {
     match definition(alloc, piece, tokens) {
-        Err(ParseFault::Syntax) => on_rows(alloc, piece, tokens),
+        Err(ParseFault::Syntax) => no_definition(alloc, piece, tokens),
+        read => read,
+    }
+}
+
+/// The same of tokens that spell no definition.
+fn no_definition(alloc: Global, piece: &[u8], tokens: &Vec<Token>) -> Result<Stmt, ParseFault>
+    requires small { length piece.now ≤ 2 ^ 20 }
+    requires lexed { IsLexed piece.now tokens.now.items }
+{
+    match on_rows(alloc, piece, tokens) {
+        Err(ParseFault::Syntax) => change(alloc, piece, tokens),
         read => read,
     }
 }

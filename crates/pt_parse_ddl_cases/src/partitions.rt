@@ -72,7 +72,8 @@ fn put_sub(text: &mut String, sub: &SubSpec) -> Result<(), AllocError> {
     put_count(text, " subpartitions ", sub.count)
 }
 
-fn put_parts(text: &mut String, parts: &[PartItem]) -> Result<(), AllocError> {
+/// Definitions of partitions in brackets, behind a space.
+pub(crate) fn put_parts(text: &mut String, parts: &[PartItem]) -> Result<(), AllocError> {
     text.push_str(" [")?;
     for (i, part) in parts.iter().enumerate() {
         text.push_str(if i > 0 { " " } else { "" })?;

@@ -11,7 +11,7 @@ use Rattle.pt_parse_ddl.specs.Lists.{AreFurther, no_further, further, AreListed,
 use Rattle.pt_parse_ddl.specs.Steps.{next_item, more_items, several}
 use Rattle.pt_parse_ddl.proofs.After.{After, after-keeps, shorter}
 use Rattle.pt_parse_ddl.proofs.Exact.{and_then-is}
-use Rattle.pt_parse_dml.proofs.Stops.{Finishes, at_end, at_close, at_from, at_order, at_limit, Stops, at_comma, finished}
+use Rattle.pt_parse_dml.proofs.Stops.{Finishes, at_end, at_close, at_from, at_where, at_order, at_limit, Stops, at_comma, finished}
 
 -- what is read behind other symbols is spelled with them
 pub carried : {A : Type 0} (R S : Symbols → A → Symbols → Type 0) (ts us : Symbols) (r : Reading A) → Sound R ts r
@@ -24,6 +24,7 @@ unfolding next_item
 no_next item at_end = refl
 no_next item at_close = refl
 no_next item at_from = refl
+no_next item at_where = refl
 no_next item at_order = refl
 no_next item at_limit = refl
 

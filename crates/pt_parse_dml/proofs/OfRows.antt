@@ -1,11 +1,12 @@
--- Tables, partitions and new rows: what is read is spelled, and what is spelled is read.
+-- Tables, partitions, new rows and assignments: what is read is spelled, and what is spelled is read.
 use Rattle.std.proofs.Common.{◌≡◌, ℕ, false, List, ◌∷◌, Option, Some, None, refl, ap, ◌∙◌}
 use Rattle.std.proofs.lemmas.Bool.{true≢false}
+use Rattle.pt_ast.specs.declared.tree.Cmp.TheVariants as cmp
 use Rattle.pt_ast.specs.declared.tree.Expr.{Expr}
 use Rattle.pt_ast.specs.declared.statement.ValueSpec.{ValueSpec}
 use Rattle.pt_ast.specs.declared.statement.ValueSpec.TheVariants as value
 use Rattle.pt_ast.specs.declared.statement.NewRows.{NewRows}
-use Rattle.pt_parse_expr.specs.declared.alphabet.Mark.TheVariants.{Other}
+use Rattle.pt_parse_expr.specs.declared.alphabet.Mark.TheVariants.{Compare, Other}
 use Rattle.pt_parse_expr.specs.declared.alphabet.Reserved.TheVariants as word
 use Rattle.pt_parse_expr.specs.declared.alphabet.Symbol.{Symbol}
 use Rattle.pt_parse_expr.specs.declared.alphabet.Symbol.TheVariants.{Fixed}
@@ -16,14 +17,14 @@ use Rattle.pt_parse_ddl.specs.Words.{IsName, plain_name, quoted_name}
 use Rattle.pt_parse_ddl.specs.Lists.{IsOptional, absent, present, AreListed, in_parens}
 use Rattle.pt_parse_ddl.specs.Keys.{AreColumns}
 use Rattle.pt_parse_ddl.specs.Steps.{and_then, optional, several, in_parens as parens, tuple, named}
-use Rattle.pt_parse_ddl.proofs.After.{After, first, later, UpTo, nothing, something, ◌▸*◌, after-keeps, up_to-keeps, name-after, expr-after, optional-up_to, tuple-after}
+use Rattle.pt_parse_ddl.proofs.After.{After, first, later, ◌▸◌, UpTo, nothing, something, ◌▸*◌, after-keeps, up_to-keeps, name-after, expr-after, optional-up_to, listed-after, tuple-after}
 use Rattle.pt_parse_ddl.proofs.Sounding.{and_then-sound, mapped-sound, name-sound, optional-sound, several-sound, tuple-sound}
 use Rattle.pt_parse_ddl.proofs.Exact.{and_then-is, mapped-is, name-read, optional-read, tuple-read}
 use Rattle.pt_parse_ddl.proofs.OfKeys.{columns-after, columns-sound, columns-read}
 use Rattle.pt_parse_dml.specs.declared.targets.Target.{Target}
-use Rattle.pt_parse_dml.specs.Rows.{ArePartitions, IsTarget, IsInto, IsValue, IsRow, AreRows, AreNewRows}
+use Rattle.pt_parse_dml.specs.Rows.{ArePartitions, IsTarget, IsInto, IsValue, IsRow, AreRows, AreNewRows, IsAssign, AreAssigns}
 use Rattle.pt_parse_dml.specs.Rows as rule
-use Rattle.pt_parse_dml.specs.RowReader.{partitions, with_parts, target, past_into, expression, value_spec, value_rows, with_columns, with_rows, new_rows}
+use Rattle.pt_parse_dml.specs.RowReader.{partitions, with_parts, target, past_into, expression, value_spec, value_rows, with_columns, with_rows, new_rows, assigned_to, assign, assigns}
 use Rattle.pt_parse_dml.proofs.Stops.{Finishes, Stops, in_parens-stop, is_apart, expr-begins}
 use Rattle.pt_parse_dml.proofs.Listing.{carried, listed-read}
 
@@ -51,6 +52,12 @@ value-after (rule.expression d) = expr-after d
 
 pub row-after : {ts rest : Symbols} {x : List ValueSpec} → IsRow ts x rest → After ts rest
 row-after d = tuple-after IsValue (λ ts rest x v. value-after v) d
+
+pub assign-after : {ts rest : Symbols} {x : List ℕ × ValueSpec} → IsAssign ts x rest → After ts rest
+assign-after (rule.assign n v) = name-after n ▸ later (value-after v)
+
+pub assigns-after : {ts rest : Symbols} {xs : List (List ℕ × ValueSpec)} → AreAssigns ts xs rest → After ts rest
+assigns-after (rule.assigns l) = later (listed-after IsAssign (λ ts rest x d. assign-after d) l)
 
 -- ---- what is read is spelled
 
@@ -102,6 +109,22 @@ module _ (expr : Reader Expr) (sound : (ts : Symbols) → Sound IsExpr ts (expr 
       and_then-sound IsTarget AreNewRows (past_into ts) ts (target (past_into ts)) (with_rows expr) (target-sound (past_into ts))
       (λ on vs t. with_rows-sound ts (past_into ts) vs on (into-sound ts) t)
 
+  assigned_to-sound : (ts us : Symbols) (column : List ℕ) → IsName ts column us → Sound IsAssign ts (assigned_to expr column us)
+  unfolding assigned_to
+  assigned_to-sound ts (Fixed (Compare cmp.Eq) ∷ us) column n =
+      mapped-sound IsValue IsAssign us ts (value_spec expr us) (λ x. (column, x)) (value-sound us) (λ x rest v. rule.assign n v)
+  assigned_to-sound ts _ column n = tt
+
+  assign-sound : (ts : Symbols) → Sound IsAssign ts (assign expr ts)
+  unfolding assign
+  assign-sound ts = and_then-sound IsName IsAssign ts ts (named ts) (assigned_to expr) (name-sound ts) (λ column us n. assigned_to-sound ts us column n)
+
+  pub assigns-sound : (ts : Symbols) → Sound AreAssigns ts (assigns expr ts)
+  unfolding assigns
+  assigns-sound (Fixed (Other word.Set) ∷ ts) =
+      carried (AreListed IsAssign) AreAssigns ts _ (several (assign expr) ts) (several-sound IsAssign (assign expr) assign-sound ts) (λ xs rest d. rule.assigns d)
+  assigns-sound _ = tt
+
 -- ---- what is spelled is read
 
 partitions-read : {ts rest : Symbols} {names : List (List ℕ)} → ArePartitions ts names rest → partitions ts ≡ Some (names, rest)
@@ -130,6 +153,11 @@ unfolding partitions
 columns-no_partitions absent (rule.rows l) = refl
 columns-no_partitions (present (in_parens l)) r = refl
 
+-- no partitions stand at SET
+pub assigns-no_partitions : {ts rest : Symbols} {xs : List (List ℕ × ValueSpec)} → AreAssigns ts xs rest → partitions ts ≡ None
+unfolding partitions
+assigns-no_partitions (rule.assigns l) = refl
+
 module _ (expr : Reader Expr) (P : Symbols → Type 0) (less : (s : Symbol) (ts : Symbols) → P (s ∷ ts) → P ts)
     (exact : (ts rest : Symbols) (x : Expr) → IsExpr ts x rest → Stops rest → P ts → expr ts ≡ Some (x, rest)) where
   no_default : (ts : Symbols) → is_apart ts ≡ false → value_spec expr ts ≡ expression expr ts
@@ -157,3 +185,13 @@ module _ (expr : Reader Expr) (P : Symbols → Type 0) (less : (s : Symbol) (ts 
       ap (λ (us : Symbols). and_then (target us) (with_rows expr)) (into-read i t)
       ∙ and_then-is (with_rows expr) (target-read t (columns-no_partitions c r))
       (ap (with_columns expr on) (optional-read AreColumns (tuple named) (λ x d. columns-read d) (rows-no_columns r) c) ∙ mapped-is _ (rows-read r f q))
+
+  assign-read : (ts rest : Symbols) (x : List ℕ × ValueSpec) → IsAssign ts x rest → Stops rest → P ts → assign expr ts ≡ Some (x, rest)
+  unfolding assign assigned_to
+  assign-read ts rest _ (rule.assign {us = us} {column = column} {x = x} n v) s p =
+      and_then-is (assigned_to expr) (name-read n)
+      (mapped-is (λ (x : ValueSpec). (column, x)) (value-read us rest x v s (less _ _ (after-keeps P less (name-after n) p))))
+
+  pub assigns-read : {ts rest : Symbols} {xs : List (List ℕ × ValueSpec)} → AreAssigns ts xs rest → Finishes rest → P ts → assigns expr ts ≡ Some (xs, rest)
+  unfolding assigns
+  assigns-read (rule.assigns l) f p = listed-read P less IsAssign (assign expr) (λ ts rest x d. assign-after d) assign-read l f (less _ _ p)

@@ -24,7 +24,7 @@ use Rattle.pt_parse_dml.specs.Tails.{IsWhere, IsDirection, IsOrder, AreOrders, I
 use Rattle.pt_parse_dml.specs.Tails as rule
 use Rattle.pt_parse_dml.specs.RowReader.{partitions, target}
 use Rattle.pt_parse_dml.specs.TailReader.{direction, directed, column_order, orders_by, orders, all_orders, limited, with_limit, with_order, with_cond, with_tail, condition, tail_of, taken_from, source}
-use Rattle.pt_parse_dml.proofs.Stops.{Finishes, at_end, at_close, at_from, at_order, at_limit, Stops, at_comma, finished}
+use Rattle.pt_parse_dml.proofs.Stops.{Finishes, at_end, at_close, at_from, at_where, at_order, at_limit, Stops, at_comma, finished}
 use Rattle.pt_parse_dml.proofs.Listing.{carried, listed-read}
 use Rattle.pt_parse_dml.proofs.OfRows.{target-after, target-sound, target-read}
 
@@ -91,7 +91,7 @@ module _ (cond : Reader Cond) (sound : (ts : Symbols) → Sound IsCond ts (cond 
   condition-sound (Fixed (Other word.Where) ∷ ts) = carried IsCond IsWhere ts _ (cond ts) (sound ts) (λ c rest d. rule.condition d)
   condition-sound _ = tt
 
-  tail-sound : (ts : Symbols) → IsTail ts (tail_of cond ts).0 (tail_of cond ts).1
+  pub tail-sound : (ts : Symbols) → IsTail ts (tail_of cond ts).0 (tail_of cond ts).1
   unfolding tail_of
   tail-sound ts =
       let c = optional (condition cond) ts in
@@ -116,6 +116,7 @@ direction-read rule.unsaid at_comma = refl
 direction-read rule.unsaid (finished at_end) = refl
 direction-read rule.unsaid (finished at_close) = refl
 direction-read rule.unsaid (finished at_from) = refl
+direction-read rule.unsaid (finished at_where) = refl
 direction-read rule.unsaid (finished at_order) = refl
 direction-read rule.unsaid (finished at_limit) = refl
 direction-read rule.rising s = refl
@@ -147,6 +148,11 @@ orders-open : {ts us : Symbols} {columns : Option (List (List ℕ × Bool))} {n 
 orders-open absent l = (limit-opens l).0
 orders-open (present (rule.orders o)) l = at_order
 
+-- a list ends before a tail
+pub tail-opens : {ts : Symbols} {t : Tail} → IsTail ts t [] → Finishes ts
+tail-opens (rule.tail (present (rule.condition d)) o l) = at_where
+tail-opens (rule.tail absent o l) = orders-open o l
+
 tail-no_partitions : {ts : Symbols} {t : Tail} → IsTail ts t [] → partitions ts ≡ None
 unfolding partitions
 tail-no_partitions (rule.tail (present (rule.condition d)) o l) = refl
@@ -167,7 +173,7 @@ module _ (cond : Reader Cond) (P : Symbols → Type 0) (less : (s : Symbol) (ts 
   no_condition absent (present (rule.limit d)) = refl
   no_condition absent absent = refl
 
-  tail-read : {ts : Symbols} {t : Tail} → IsTail ts t [] → P ts → tail_of cond ts ≡ (t, [])
+  pub tail-read : {ts : Symbols} {t : Tail} → IsTail ts t [] → P ts → tail_of cond ts ≡ (t, [])
   unfolding tail_of limited
   tail-read (rule.tail {c = c} {columns = columns} {n = n} w o l) p =
       let ends = limit-opens l in

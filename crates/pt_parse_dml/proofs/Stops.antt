@@ -15,6 +15,7 @@ pub data Finishes : Symbols → Type 0 where
   at_end : Finishes []
   at_close : {ts : Symbols} → Finishes (Fixed Close ∷ ts)
   at_from : {ts : Symbols} → Finishes (the word.From ∷ ts)
+  at_where : {ts : Symbols} → Finishes (the word.Where ∷ ts)
   at_order : {ts : Symbols} → Finishes (the word.Order ∷ ts)
   at_limit : {ts : Symbols} → Finishes (the word.Limit ∷ ts)
 
@@ -33,6 +34,7 @@ sum-stops at_comma = refl
 sum-stops (finished at_end) = refl
 sum-stops (finished at_close) = refl
 sum-stops (finished at_from) = refl
+sum-stops (finished at_where) = refl
 sum-stops (finished at_order) = refl
 sum-stops (finished at_limit) = refl
 
@@ -41,6 +43,7 @@ cond-stops at_comma = refl
 cond-stops (finished at_end) = refl
 cond-stops (finished at_close) = refl
 cond-stops (finished at_from) = refl
+cond-stops (finished at_where) = refl
 cond-stops (finished at_order) = refl
 cond-stops (finished at_limit) = refl
 

@@ -27,16 +27,17 @@ use Rattle.pt_parse_ddl.proofs.After.{After, shorter, name-after, expr-after}
 use Rattle.pt_parse_ddl.proofs.OfKeys.{columns-after}
 use Rattle.pt_parse_ddl.proofs.Storing.{Given, given-tail, behind, behind-up_to, expr-stored, further-counted, further-stored, tuple-counted, tuple-all, optional-stored, number-stored, columns-stored}
 use Rattle.pt_parse_dml.specs.declared.targets.Target.{Target}
-use Rattle.pt_parse_dml.specs.Rows.{ArePartitions, IsTarget, IsValue, IsRow, AreRows, AreNewRows}
+use Rattle.pt_parse_dml.specs.Rows.{ArePartitions, IsTarget, IsValue, IsRow, AreRows, AreNewRows, IsAssign, AreAssigns}
 use Rattle.pt_parse_dml.specs.Rows as row
-use Rattle.pt_parse_dml.specs.Tails.{IsWhere, IsOrder, AreOrders, IsLimit, or_none, IsTail}
+use Rattle.pt_parse_dml.specs.declared.tails.Source.{Source}
+use Rattle.pt_parse_dml.specs.Tails.{IsWhere, IsOrder, AreOrders, IsLimit, or_none, IsTail, IsSource}
 use Rattle.pt_parse_dml.specs.Tails as tail
 use Rattle.pt_parse_dml.specs.Statements.{AreItems, IsQuery, IsStmt}
 use Rattle.pt_parse_dml.specs.Statements as stmt
 use Rattle.pt_parse_dml.specs.Spelling.{SpellsStmt}
-use Rattle.pt_parse_dml.proofs.OfRows.{partitions-after, target-after, into-up_to, columns-up_to, value-after, row-after}
+use Rattle.pt_parse_dml.proofs.OfRows.{partitions-after, target-after, into-up_to, columns-up_to, value-after, row-after, assign-after, assigns-after}
 use Rattle.pt_parse_dml.proofs.OfTails.{where-after, where-up_to, order-after, orders-up_to, limit-after}
-use Rattle.pt_parse_dml.proofs.OfStatements.{items-after}
+use Rattle.pt_parse_dml.proofs.OfStatements.{items-after, ignore-up_to, said-up_to}
 
 cond-stored : {ts rest : Symbols} {c : Cond} → IsCond ts c rest → Given ts → IsStorableCond c
 cond-stored d g = cond-within {room = 64} d (record {
@@ -91,6 +92,17 @@ new_rows-stored (row.new_rows i t c r) g =
       rows = all.1;
     }
 
+-- ---- assignments
+
+assign-stored : (ts rest : Symbols) (x : List ℕ × ValueSpec) → IsAssign ts x rest → Given ts → IsStorableValue x.1
+assign-stored _ _ _ (row.assign {us = us} {rest = rest} {x = x} n v) g = value-stored us rest x v (given-tail _ _ (behind (name-after n) g))
+
+assigns-stored : {ts rest : Symbols} {xs : List (List ℕ × ValueSpec)} → AreAssigns ts xs rest → Given ts
+    → HasAtLeast 1 xs × All (λ (x : List ℕ × ValueSpec). IsStorableValue x.1) xs
+assigns-stored (row.assigns l) g =
+    let h = given-tail _ _ g in
+    (listed-counted IsAssign (λ ts rest x d. assign-after d) l h, listed-all IsAssign (λ ts rest x d. assign-after d) (λ x. IsStorableValue x.1) assign-stored l h)
+
 -- ---- which rows
 
 where-stored : (ts rest : Symbols) (c : Cond) → IsWhere ts c rest → Given ts → IsStorableCond c
@@ -112,6 +124,9 @@ tail-stored (tail.tail w o l) g =
       limit = optional-stored IsLimit (λ ts rest x d. limit-after d) IsNotNegative limit-stored l (behind-up_to (orders-up_to o) h);
     }
 
+source-stored : {ts rest : Symbols} {from : Source} → IsSource ts from rest → Given ts → AreNamed from.target.parts × IsStorableTail from.tail
+source-stored (tail.source t d) g = let h = given-tail _ _ g in (target-stored t h, tail-stored d (behind (target-after t) h))
+
 -- ---- statements
 
 exprs-stored : {ts rest : Symbols} {xs : List Expr} → AreListed IsExpr ts xs rest → Given ts → AreStorableExprs xs
@@ -121,17 +136,25 @@ exprs-stored l g = (
 )
 
 query-stored : {ts rest : Symbols} {q : Query} → IsQuery ts q rest → Given ts → IsStorableQuery q
-query-stored (stmt.query stmt.all (tail.source t d)) g =
-    let h = given-tail _ _ (given-tail _ _ (given-tail _ _ g)) in
-    record { items = tt; parts = target-stored t h; tail = tail-stored d (behind (target-after t) h) }
-query-stored (stmt.query (stmt.some l) (tail.source t d)) g =
+query-stored (stmt.query stmt.all s) g =
+    let h = source-stored s (given-tail _ _ (given-tail _ _ g)) in
+    record { items = tt; parts = h.0; tail = h.1 }
+query-stored (stmt.query (stmt.some l) s) g =
     let k = given-tail _ _ g in
-    let h = given-tail _ _ (behind (items-after (stmt.some l)) k) in
-    record { items = exprs-stored l k; parts = target-stored t h; tail = tail-stored d (behind (target-after t) h) }
+    let h = source-stored s (behind (items-after (stmt.some l)) k) in
+    record { items = exprs-stored l k; parts = h.0; tail = h.1 }
 
 statement-stored : {ts : Symbols} {x : Stmt} → IsStmt ts x [] → Given ts → IsStorableStmt x
-statement-stored (stmt.insert d) g = new_rows-stored d (given-tail _ _ g)
+statement-stored (stmt.insert i d) g = new_rows-stored d (behind-up_to (ignore-up_to i) (given-tail _ _ g))
+statement-stored (stmt.replace d) g = new_rows-stored d (given-tail _ _ g)
+statement-stored (stmt.update t a d) g =
+    let h = given-tail _ _ g in
+    let k = behind (target-after t) h in
+    let all = assigns-stored a k in
+    (target-stored t h, all.0, all.1, tail-stored d (behind (assigns-after a) k))
+statement-stored (stmt.delete s) g = source-stored s (given-tail _ _ g)
 statement-stored (stmt.select d) g = query-stored d g
+statement-stored (stmt.explain w d) g = query-stored d (behind-up_to (said-up_to w) (given-tail _ _ g))
 
 -- what is read of a piece is storable
 pub reading-stored : (piece : List ℕ) (tokens : List Token) → IsLexed piece tokens → length piece ≤ 2 ^ 20 → (IsDeep (symbols piece tokens) → ⊥)

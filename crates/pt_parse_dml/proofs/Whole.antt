@@ -22,7 +22,7 @@ use Rattle.pt_parse_ddl.specs.Statements as definition
 use Rattle.pt_parse_ddl.specs.Reader.{finished, placed}
 use Rattle.pt_parse_ddl.specs.Steps.{whole}
 use Rattle.pt_parse_ddl.proofs.Whole.{same_tree, Level, level-tail, whole-sound, finished-sound, placed-is, one as one_definition}
-use Rattle.pt_parse_dml.specs.Statements.{IsStmt, insert, select, query}
+use Rattle.pt_parse_dml.specs.Statements.{IsStmt, insert, replace, update, delete, select, explain, query}
 use Rattle.pt_parse_dml.specs.Spelling.{SpellsStmt, Spells, as_definition, on_rows, OneReading}
 use Rattle.pt_parse_dml.specs.TailReader.{whole_cond}
 use Rattle.pt_parse_dml.specs.Reader.{statement}
@@ -53,18 +53,24 @@ one_on_rows ts x y d e =
 -- the first word decides
 abbrev begins_on_rows : Symbols → Bool
 begins_on_rows (Fixed (Other word.Insert) ∷ ts) = true
+begins_on_rows (Fixed (Other word.Replace) ∷ ts) = true
+begins_on_rows (Fixed (Other word.Update) ∷ ts) = true
+begins_on_rows (Fixed (Other word.Delete) ∷ ts) = true
 begins_on_rows (Fixed (Other word.Select) ∷ ts) = true
+begins_on_rows (Fixed (Other word.Explain) ∷ ts) = true
 begins_on_rows _ = false
 
 rows-begin : {ts rest : Symbols} {x : Stmt} → IsStmt ts x rest → begins_on_rows ts ≡ true
-rows-begin (insert d) = refl
+rows-begin (insert i d) = refl
+rows-begin (replace d) = refl
+rows-begin (update t a d) = refl
+rows-begin (delete s) = refl
 rows-begin (select (query d s)) = refl
+rows-begin (explain w d) = refl
 
 definition-begins : {ts rest : Symbols} {x : Stmt} → IsDefinition ts x rest → begins_on_rows ts ≡ false
-definition-begins (definition.create d e f) = refl
-definition-begins (definition.like d e f) = refl
-definition-begins (definition.drop d e) = refl
 definition-begins (definition.show d) = refl
+definition-begins _ = refl
 
 apart : (ts : Symbols) (x y : Stmt) → SpellsDefinition ts x → SpellsStmt ts y → ⊥
 apart ts x y d e = true≢false (sym (rows-begin e) ∙ definition-begins d)

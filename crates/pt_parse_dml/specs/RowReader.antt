@@ -1,10 +1,11 @@
--- The reading of tables, partitions and new rows, as functions on lists of symbols. (In the shape of the code.)
+-- The reading of tables, partitions, new rows and assignments, as functions on lists of symbols. (In the shape of the code.)
 use Rattle.std.specs.Prelude.{ℕ, List, ◌∷◌, Option, Some, None}
+use Rattle.pt_ast.specs.declared.tree.Cmp.TheVariants as cmp
 use Rattle.pt_ast.specs.declared.tree.Expr.{Expr}
 use Rattle.pt_ast.specs.declared.statement.ValueSpec.{ValueSpec}
 use Rattle.pt_ast.specs.declared.statement.ValueSpec.TheVariants as value
 use Rattle.pt_ast.specs.declared.statement.NewRows.{NewRows}
-use Rattle.pt_parse_expr.specs.declared.alphabet.Mark.TheVariants.{Other}
+use Rattle.pt_parse_expr.specs.declared.alphabet.Mark.TheVariants.{Compare, Other}
 use Rattle.pt_parse_expr.specs.declared.alphabet.Reserved.TheVariants as word
 use Rattle.pt_parse_expr.specs.declared.alphabet.Symbol.TheVariants.{Fixed}
 use Rattle.pt_parse_expr.specs.Grammar.{Symbols}
@@ -49,3 +50,21 @@ module _ (expr : Reader Expr) where
 
   unfoldable pub new_rows : Reader NewRows
   new_rows ts = and_then (target (past_into ts)) with_rows
+
+  -- ---- assignments
+
+  abbrev pub assigned : List ℕ → Symbols → Reading (List ℕ × ValueSpec)
+  assigned column ts = mapped (λ x. (column, x)) (value_spec ts)
+
+  -- what stands behind the name of a column
+  unfoldable pub assigned_to : List ℕ → Reader (List ℕ × ValueSpec)
+  assigned_to column (Fixed (Compare cmp.Eq) ∷ ts) = assigned column ts
+  assigned_to column _ = None
+
+  unfoldable pub assign : Reader (List ℕ × ValueSpec)
+  assign ts = and_then (named ts) assigned_to
+
+  -- SET assign {, assign}
+  unfoldable pub assigns : Reader (List (List ℕ × ValueSpec))
+  assigns (Fixed (Other word.Set) ∷ ts) = several assign ts
+  assigns _ = None

@@ -1,4 +1,4 @@
--- The grammar of the table that a statement on rows speaks of, and of the rows that it puts there.
+-- The grammar of the table that a statement on rows speaks of, of the rows that it puts there, and of the values that it assigns.
 --
 --     target  = name [PARTITION cols]
 --     cols    = ( name {, name} )
@@ -6,15 +6,20 @@
 --     rows    = VALUES row {, row}
 --     row     = ( value {, value} )
 --     value   = expr | DEFAULT
+--     assigns = SET assign {, assign}
+--     assign  = name = value
 --
--- After the manual's sections 13.2.5, "INSERT Syntax", and 22.5, "Partition Selection". DEFAULT is a value by itself, and stands in no
--- expression.
+-- After the manual's sections 13.2.5, "INSERT Syntax", 13.2.11, "UPDATE Syntax", and 22.5, "Partition Selection". DEFAULT is a value by
+-- itself, and stands in no expression. In an assignment `=` is no comparison: behind it stands one value.
 use Rattle.std.specs.Prelude.{ℕ, List, ◌∷◌, Option}
+use Rattle.pt_ast.specs.declared.tree.Cmp.TheVariants as cmp
 use Rattle.pt_ast.specs.declared.tree.Expr.{Expr}
 use Rattle.pt_ast.specs.declared.statement.ValueSpec.{ValueSpec}
 use Rattle.pt_ast.specs.declared.statement.ValueSpec.TheVariants as value
 use Rattle.pt_ast.specs.declared.statement.NewRows.{NewRows}
+use Rattle.pt_parse_expr.specs.declared.alphabet.Mark.TheVariants.{Compare}
 use Rattle.pt_parse_expr.specs.declared.alphabet.Reserved.TheVariants as word
+use Rattle.pt_parse_expr.specs.declared.alphabet.Symbol.TheVariants.{Fixed}
 use Rattle.pt_parse_expr.specs.Grammar.{Symbols, IsExpr}
 use Rattle.pt_parse_ddl.specs.Words.{the, IsName}
 use Rattle.pt_parse_ddl.specs.Lists.{IsOptional, AreListed, InTuple}
@@ -51,3 +56,12 @@ pub data AreNewRows : Symbols → NewRows → Symbols → Type 0 where
   new_rows : {ts us vs ws rest : Symbols} {on : Target} {columns : Option (List (List ℕ))} {values : List (List ValueSpec)} → IsInto ts tt us
       → IsTarget us on vs → IsOptional AreColumns vs columns ws → AreRows ws values rest
       → AreNewRows ts (record { table = on.table; parts = on.parts; columns = columns; rows = values }) rest
+
+-- name = value
+pub data IsAssign : Symbols → List ℕ × ValueSpec → Symbols → Type 0 where
+  assign : {ts us rest : Symbols} {column : List ℕ} {x : ValueSpec} → IsName ts column (Fixed (Compare cmp.Eq) ∷ us) → IsValue us x rest
+      → IsAssign ts (column, x) rest
+
+-- SET assign {, assign}
+pub data AreAssigns : Symbols → List (List ℕ × ValueSpec) → Symbols → Type 0 where
+  assigns : {ts rest : Symbols} {xs : List (List ℕ × ValueSpec)} → AreListed IsAssign ts xs rest → AreAssigns (the word.Set ∷ ts) xs rest

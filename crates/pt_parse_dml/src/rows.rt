@@ -23,19 +23,28 @@ fn expression(alloc: Global, symbols: &[Symbol], at: usize) -> Reading<ValueSpec
 }
 
 /// A value: DEFAULT by itself, or an expression.
+#[tactic(auto, unfolding(crate::specs::RowReader::value_spec))]
+pub(crate) fn read_value(alloc: Global, symbols: &[Symbol], at: usize) -> Reading<ValueSpec>
+    requires { at ≤ length symbols.now }
+    ensures reads { Reads symbols.now result (spec.value_spec steps.whole (drop at symbols.now)) }
+    ensures place { Reaches (at + 1) symbols.now result }
+{
+    match peek(symbols, at) {
+        Some(Symbol::Fixed(Mark::Other(Reserved::Default))) => {
+            Ok(Some((ValueSpec::Default, at + 1)))
+        }
+        _ => expression(alloc, symbols, at),
+    }
+}
+
+/// A value.
 struct ValueRule;
 
 impl Rule<ValueSpec> for ValueRule {
     ghost reading = { spec.value_spec steps.whole };
 
-    #[tactic(auto, unfolding(crate::specs::RowReader::value_spec))]
     fn read(alloc: Global, symbols: &[Symbol], at: usize) -> Reading<ValueSpec> {
-        match peek(symbols, at) {
-            Some(Symbol::Fixed(Mark::Other(Reserved::Default))) => {
-                Ok(Some((ValueSpec::Default, at + 1)))
-            }
-            _ => expression(alloc, symbols, at),
-        }
+        read_value(alloc, symbols, at)
     }
 }
 
@@ -115,7 +124,7 @@ fn with_rows(alloc: Global, symbols: &[Symbol], at: usize, on: Target) -> Readin
     }
 }
 
-/// What stands behind INSERT.
+/// What stands behind INSERT [IGNORE], and behind REPLACE.
 #[tactic(auto, unfolding(crate::specs::RowReader::new_rows))]
 pub(crate) fn new_rows(alloc: Global, symbols: &[Symbol], at: usize) -> Reading<NewRows>
     requires { at ≤ length symbols.now }

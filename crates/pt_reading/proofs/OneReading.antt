@@ -3,17 +3,17 @@ use Rattle.std.proofs.Common.{◌≡◌, ℕ, List, refl, ap, subst}
 use Rattle.pt_token.specs.declared.token.Token.{Token}
 use Rattle.pt_token.proofs.OneLexing as lexing
 use Rattle.pt_parse_expr.specs.Symbols.{symbols}
-use Rattle.pt_parse_dml.proofs.Whole as whole
+use Rattle.pt_parse_alter.proofs.Whole as whole
 use Rattle.pt_reading.specs.declared.reading.Reading.{Reading}
 use Rattle.pt_reading.specs.declared.reading.Reading.TheVariants.{Spelled, Syntax, TooDeep, LongName}
 use Rattle.pt_reading.specs.Reading.{AreRead, faulty, lexed, OneReading}
 
 of_tokens : (piece : List ℕ) (tokens : List Token) (x y : Reading) → AreRead piece tokens x → AreRead piece tokens y → x ≡ y
 of_tokens piece tokens (Spelled a) (Spelled b) d e = ap Spelled (whole.one_reading.one (symbols piece tokens) a b d.spelled e.spelled)
-of_tokens piece tokens (Spelled a) Syntax d e = absurd (e.unspelled a d.spelled)
+of_tokens piece tokens (Spelled a) Syntax d e = absurd (e.unspelled a d.spelled d.known)
 of_tokens piece tokens (Spelled a) TooDeep d e = absurd (d.limits.shallow e)
 of_tokens piece tokens (Spelled a) LongName d e = absurd (d.limits.short e.long)
-of_tokens piece tokens Syntax (Spelled b) d e = absurd (d.unspelled b e.spelled)
+of_tokens piece tokens Syntax (Spelled b) d e = absurd (d.unspelled b e.spelled e.known)
 of_tokens piece tokens Syntax Syntax d e = refl
 of_tokens piece tokens Syntax TooDeep d e = absurd (d.limits.shallow e)
 of_tokens piece tokens Syntax LongName d e = absurd (d.limits.short e.long)

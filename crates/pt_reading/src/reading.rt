@@ -2,7 +2,8 @@ ghost use Rattle.std.specs.Prelude.{◌≡◌, ◌≤◌, ◌^◌, true, length,
 ghost use Rattle.pt_ast.specs.StorableStmt.{IsStorableStmt};
 ghost use Rattle.pt_token.specs.Tokens.{IsLexed};
 ghost use Rattle.pt_parse_ddl.specs.Spelling.{IsUnread};
-ghost use Rattle.pt_reading.specs.Reading.{AreRead, IfSpelled, Reads, is_known, is_lexical, refusal_of};
+ghost use Rattle.pt_parse_dml.specs.Spelling.{IsUnread as IsNotOnRows};
+ghost use Rattle.pt_reading.specs.Reading.{AreRead, IfSpelled, Reads, is_known, is_lexical, reading_of, refusal_of};
 
 use pt_ast::{Refusal, Stmt};
 use pt_parse_expr::ParseFault;
@@ -83,11 +84,68 @@ fn read_on_rows(alloc: Global, piece: &[u8], tokens: &Vec<Token>) -> Result<Read
     ensures covered { IfOk result (IfSpelled (λ statement. is_known statement ≡ true)) }
 {
     match pt_parse_dml::parse(alloc, piece, tokens) {
-        Ok(statement) => Ok(Reading::Spelled(statement)),
+        Ok(statement) => Ok(known(statement)),
+        Err(ParseFault::TooDeep) => Ok(Reading::TooDeep),
+        Err(ParseFault::LongName) => Ok(Reading::LongName),
+        Err(ParseFault::Syntax) => read_change(alloc, piece, tokens),
+        Err(ParseFault::NoMemory) => Err(AllocError),
+    }
+}
+
+/// The same of tokens that spell no statement on rows either.
+fn read_change(alloc: Global, piece: &[u8], tokens: &Vec<Token>) -> Result<Reading, AllocError>
+    requires small { length piece.now ≤ 2 ^ 20 }
+    requires lexed { IsLexed piece.now tokens.now.items }
+    requires no_definition { IsUnread piece.now tokens.now.items }
+    requires not_on_rows { IsNotOnRows piece.now tokens.now.items }
+    ensures reads { IfOk result (AreRead piece.now tokens.now.items) }
+    ensures storable { IfOk result (IfSpelled IsStorableStmt) }
+    ensures covered { IfOk result (IfSpelled (λ statement. is_known statement ≡ true)) }
+{
+    match pt_parse_alter::parse(alloc, piece, tokens) {
+        Ok(change) => Ok(known(change)),
         Err(ParseFault::TooDeep) => Ok(Reading::TooDeep),
         Err(ParseFault::LongName) => Ok(Reading::LongName),
         Err(ParseFault::Syntax) => Ok(Reading::Syntax),
         Err(ParseFault::NoMemory) => Err(AllocError),
+    }
+}
+
+/// The reading of a statement that is spelled: where it isn't known, it is no statement.
+fn known(statement: Stmt) -> Reading
+    ensures { result ≡ reading_of statement }
+{
+    if is_known(&statement) {
+        return Reading::Spelled(statement);
+    }
+    drop(statement);
+    Reading::Syntax
+}
+
+/// Whether a statement is known.
+fn is_known(statement: &Stmt) -> bool
+    ensures { result ≡ is_known statement.now }
+{
+    match statement {
+        Stmt::Create(_, _, _)
+        | Stmt::Like(_, _, _)
+        | Stmt::Drop(_, _)
+        | Stmt::Show(_)
+        | Stmt::Insert(_, _)
+        | Stmt::Replace(_)
+        | Stmt::Update(_, _, _, _)
+        | Stmt::Delete(_, _, _)
+        | Stmt::Select(_) => true,
+        Stmt::AddParts(_, _)
+        | Stmt::AddCount(_, _)
+        | Stmt::DropParts(_, _)
+        | Stmt::Truncate(_, _)
+        | Stmt::Coalesce(_, _)
+        | Stmt::Reorganize(_, _, _)
+        | Stmt::Exchange(_, _, _)
+        | Stmt::RemoveParts(_)
+        | Stmt::PartitionBy(_, _)
+        | Stmt::Explain(_) => false,
     }
 }
 

@@ -1,23 +1,21 @@
 //! SELECT.
-ghost use Rattle.std.specs.Prelude.{◌≡◌, All, IfNone, IfOk};
+ghost use Rattle.std.specs.Prelude.{◌≡◌, ℕ, All, IfNone, IfOk};
 ghost use Rattle.std.specs.Option.{option_or};
 ghost use Rattle.pt_host.specs.Listed.{FileList};
-ghost use Rattle.pt_expr.specs.Columns.{AreFitting};
 ghost use Rattle.pt_checks.specs.Named.{bad_parts};
 ghost use Rattle.pt_checks.specs.Printed.{select_text};
 ghost use Rattle.pt_checks.specs.Queries.{IsChecked, bad_query};
-ghost use Rattle.pt_checks.specs.Wanted.{arranged};
 ghost use Rattle.pt_store.specs.Stops.{IsCounted};
 ghost use Rattle.pt_store.specs.Store.{IsStore};
+ghost use Rattle.pt_db.specs.Sound.{IsSoundRow};
 ghost use Rattle.pt_db.specs.Texts.{answered};
 ghost use Rattle.pt_flat.specs.Select.{select};
 ghost use Rattle.pt_session.specs.Leaves.{Tells};
 ghost use Rattle.pt_session.specs.Session.{HasMap, IsOpen};
 
-use crate::reading::read_wanted;
-use crate::spots::spots_read;
 use pt_ast::{Query, Refusal, Reply, Rows, TableDef};
-use pt_checks::{arranged, bad_parts, bad_query, select_text};
+use pt_candidates::candidates;
+use pt_checks::{bad_parts, bad_query, select_text};
 use pt_db::refusal_reply;
 use pt_host::Host;
 use pt_session::Session;
@@ -38,8 +36,7 @@ pub(crate) fn select<H: Host>(session: &Session, host: &mut H, query: &Query) ->
     if let Some(refusal) = refusal_of(def, query) {
         return Ok(refusal_reply(alloc, refusal)?);
     }
-    let spots = spots_read(alloc, def, &query.parts)?;
-    let rows = read_wanted(session, host, def, query, spots.items())?;
+    let rows = candidates(session, host, &query.table, def, &query.parts, &query.tail)?;
     Ok(answer(alloc, def, query, rows)?)
 }
 
@@ -57,20 +54,9 @@ fn refusal_of(def: &TableDef, query: &Query) -> Option<Refusal>
 /// The answer of a query, from the rows that it takes.
 fn answer(alloc: Global, def: &TableDef, query: &Query, rows: Rows) -> Result<Reply, AllocError>
     requires checked { IsChecked def.now query.now }
-    requires fitting { All (λ row. AreFitting def.now.columns row.cells) rows }
-    ensures { IfOk result (λ reply. reply ≡ answered (select_text def.now.columns query.now.items (arranged def.now.columns query.now.tail rows))) }
+    requires sound { (next : ℕ) × All (IsSoundRow next def.now) rows }
+    ensures { IfOk result (λ reply. reply ≡ answered (select_text def.now.columns query.now.items rows)) }
 {
-    let rows = arrange(alloc, def, query, rows)?;
     let text = select_text(alloc, &def.columns, &query.items, rows.items())?;
     Ok(Reply { code: 0, text })
-}
-
-/// These rows in the order of the query, and at most as many as it wants.
-fn arrange(alloc: Global, def: &TableDef, query: &Query, rows: Rows) -> Result<Rows, AllocError>
-    requires { All (λ row. AreFitting def.now.columns row.cells) rows }
-    ensures value { IfOk result (λ taken. taken ≡ arranged def.now.columns query.now.tail rows) }
-    ensures fitting { IfOk result (λ taken. All (λ row. AreFitting def.now.columns row.cells) taken) }
-{
-    let taken = arranged(alloc, &def.columns, &query.tail, rows)?;
-    Ok(taken)
 }

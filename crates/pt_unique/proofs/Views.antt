@@ -1,5 +1,5 @@
 -- What a book is seen as, before and after.
-use Rattle.std.proofs.Common.{◌≡◌, ◌≢◌, ℕ, List, [], ◌∷◌, Some, sym, ap, ◌∙◌, subst}
+use Rattle.std.proofs.Common.{◌≡◌, ◌≢◌, ℕ, cond, List, [], ◌∷◌, None, Some, sym, ap, ◌∙◌, subst}
 use Rattle.std.specs.Prelude.{Result, Ok, Err, OnOk}
 use Rattle.std.specs.Ordering.{nat_cmp}
 use Rattle.std.specs.Map.{lookup, remove_entry}
@@ -41,3 +41,11 @@ pub view_same : (keys looked : List (List ℕ)) (old new : List (ℕ × List Mar
 view_same keys looked old new serial cells book is same changed =
     subst (λ (b : Book). entry_at b serial ≢ Some (entry_of b.keys cells) → book_of keys new ≡ b) is
     (λ h. ap (book_of keys) (changed (λ e. h (e ∙ ap (λ ks. Some (entry_of ks cells)) same))))
+
+pub view_removed : (keys : List (List ℕ)) (old new : List (ℕ × List Mark)) (serial : ℕ) (book : Book) → book_of keys old ≡ book → new ≡ remove_entry (is_at (nat_cmp serial)) old → book_of keys new ≡ without book serial
+view_removed keys old new serial book is changed = ap (book_of keys) changed ∙ ap (λ (b : Book). without b serial) is
+
+pub view_at : (keys : List (List ℕ)) (old new : List (ℕ × List Mark)) (serial : ℕ) (book : Book) → book_of keys old ≡ book
+    → ((other : ℕ) → lookup (is_at (nat_cmp other)) new ≡ cond (is_at (nat_cmp serial) other) None (lookup (is_at (nat_cmp other)) old))
+    → (other : ℕ) → entry_at (book_of keys new) other ≡ cond (is_at (nat_cmp serial) other) None (entry_at book other)
+view_at keys old new serial book is at other = at other ∙ ap (λ (b : Book). cond (is_at (nat_cmp serial) other) None (entry_at b other)) is

@@ -1,4 +1,4 @@
-ghost use Rattle.std.specs.Prelude.{◌≡◌, ◌≢◌, ◌↔◌, ℕ, [], Some, if◌then◌else◌, IsTrue, IfOk, IfErr, OnOk, OnErr};
+ghost use Rattle.std.specs.Prelude.{◌≡◌, ◌≢◌, ◌↔◌, ℕ, [], None, Some, if◌then◌else◌, IsTrue, IfOk, IfErr, OnOk, OnErr};
 ghost use Rattle.std.specs.Ordering.{nat_cmp};
 ghost use Rattle.std.specs.Map.{remove_entry};
 ghost use Rattle.std.specs.BTreeMap as tree;
@@ -82,6 +82,14 @@ impl KeyBook {
         ensures other { entry_at self.old row.now.serial ≢ Some (entry_of self.old.keys row.now.cells) → self.new ≡ self.old }
     {
         leave_row(self.keys.items(), &mut self.entries, &mut self.holders, row)
+    }
+
+    /// Takes the row of that serial out, where the book has one. It takes no memory.
+    pub fn remove(&mut self, serial: u64)
+        ensures is { self.new ≡ without self.old serial }
+        ensures at { (other : ℕ) → entry_at self.new other ≡ (if is_at (nat_cmp serial) other then None else entry_at self.old other) }
+    {
+        remove_row(&mut self.entries, &mut self.holders, serial)
     }
 }
 
@@ -194,7 +202,16 @@ fn leave_row(
     if !has_row(keys, entries, row) {
         return;
     }
-    let before = entries.remove(&row.serial);
+    remove_row(entries, holders, row.serial);
+}
+
+fn remove_row(entries: &mut BTreeMap<u64, List<Mark>>, holders: &mut Holders, serial: u64)
+    requires { AreHolders (λ serial. tree.get nat_cmp entries.old serial) (λ mark. hashed.get mark_eq holders.old mark) }
+    ensures holders { AreHolders (λ serial. tree.get nat_cmp entries.new serial) (λ mark. hashed.get mark_eq holders.new mark) }
+    ensures entries { entries.new.entries ≡ remove_entry (is_at (nat_cmp serial)) entries.old.entries }
+    ensures at { (other : ℕ) → tree.get nat_cmp entries.new other ≡ (if is_at (nat_cmp serial) other then None else tree.get nat_cmp entries.old other) }
+{
+    let before = entries.remove(&serial);
     let_go_of(holders, &before);
 }
 

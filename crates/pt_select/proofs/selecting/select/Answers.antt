@@ -1,26 +1,18 @@
-use Rattle.std.proofs.Common.{◌≡◌, true, List, Err, refl, sym, ap, subst, ◌∙◌}
-use Rattle.std.specs.List.{All, flat_map}
-use Rattle.std.proofs.lemmas.List.Elements.{All-filter, filter_passes}
+use Rattle.std.proofs.Common.{List, Err, refl, sym}
 use Rattle.std.proofs.lemmas.Result.{err_from_is_err_and}
 use Rattle.pt_host.specs.Listed.{by_name}
 use Rattle.pt_ast.specs.declared.database.Row.{Row}
-use Rattle.pt_ast.specs.declared.database.Spot.{Spot}
 use Rattle.pt_ast.specs.declared.refusal.Refusal.TheVariants as refusal
 use Rattle.pt_ast.specs.declared.reply.Reply.{Reply}
-use Rattle.pt_checks.specs.Wanted.{is_named_spot}
 use Rattle.pt_checks.specs.Printed.{select_text}
-use Rattle.pt_checks.specs.Wanted.{arranged}
-use Rattle.pt_db.specs.Spots.{IsSpotOf, spots_of}
-use Rattle.pt_db.proofs.SpotLists.{spots_each}
 use Rattle.pt_holds.specs.Bad.{Bad}
 use Rattle.pt_store.proofs.Steps.{no_look}
 use Rattle.pt_flat.specs.Select.{select}
 use Rattle.pt_session.proofs.Excludes.{bad_excludes}
 use Rattle.pt_session.proofs.Over.{stands_over}
 use Rattle.pt_session.proofs.Telling.{answered_tells, refused_tells, short_tells, stopped_tells}
-use Rattle.pt_select.specs.Read.{HoldsSpots, wanted_in}
 use Rattle.pt_select.proofs.Meanings.{select_absent, select_answered, select_refused}
-use Rattle.pt_select.proofs.Steps.{bad_told}
+use Rattle.pt_candidates.proofs.Steps.{bad_told}
 use Rattle.pt_select.proofs.selecting.select.Goals as goal
 
 pub returns-in_err-refusal_reply-clause-told : goal.returns-in_err-refusal_reply-clause-told
@@ -42,43 +34,27 @@ returns-in-Some-refusal_of-clause-told g c tells map store =
     refused_tells (λ db. select db c.args.query.now) _ map _ _ store (no_look _ map _ store) c.in-Some-refusal_of.refusal _
     (select_refused _ map c.requires.«open» c.args.query.now c.in-Some.def.now (sym c.in-Some.ensures) c.in-Some-refusal_of.refusal (sym c.in-Some-refusal_of.ensures.refusal)) c.in_ok-refusal_reply-2.ensures
 
-pub returns-in_err-spots-clause-told : goal.returns-in_err-spots-clause-told
-returns-in_err-spots-clause-told g c tells map store =
-    let p = err_from_is_err_and c.from_residual-in_err-spots.result c.from_residual-in_err-spots.ensures.1 in
-    short_tells (λ db. select db c.args.query.now) _ map _ _ store (no_look _ map _ store) p.0 _ p.1 p.2
-
-pub read_wanted-requires-clause-held : goal.read_wanted-requires-clause-held
-read_wanted-requires-clause-held g c = sym c.in-Some.ensures
-
-pub read_wanted-requires-clause-spots : goal.read_wanted-requires-clause-spots
-read_wanted-requires-clause-spots g c =
-    let def = c.in-Some.def.now in
-    subst (λ spots. All (IsSpotOf def) spots) (sym (c.items.ensures ∙ c.in_ok-spots.ensures)) (All-filter (is_named_spot def c.args.query.now.parts) (IsSpotOf def) (spots_of def) (spots_each def))
-
-pub read_wanted-requires-clause-named : goal.read_wanted-requires-clause-named
-read_wanted-requires-clause-named g c =
-    let named = is_named_spot c.in-Some.def.now c.args.query.now.parts in
-    subst (λ spots. All (λ (spot : Spot). named spot ≡ true) spots) (sym (c.items.ensures ∙ c.in_ok-spots.ensures)) (filter_passes named (spots_of c.in-Some.def.now))
-
 pub returns-in_err-rows-clause-told : goal.returns-in_err-rows-clause-told
 returns-in_err-rows-clause-told g c tells map store =
     let p = err_from_is_err_and c.from_residual-in_err-rows.result c.from_residual-in_err-rows.ensures.1 in
     let e = c.in_err-rows.field-0.0 in
     rw (p.1, p.2)
-    (stopped_tells (λ db. select db c.args.query.now) _ map _ _ store (c.in_err-rows.ensures.told tells map store) e (Err e) refl
+    (stopped_tells (λ db. select db c.args.query.now) _ map _ _ store (c.in_err-rows.ensures.looks tells map store) e (Err e) refl
     (λ over. bad_told (List Row) Reply e _ (λ name place. Bad (by_name map) name place) (λ name place had. had tells map store over) c.in_err-rows.ensures.bad)
     (λ db stands. bad_told (List Row) Reply e _ (λ name place. ⊥) (λ name place had. bad_excludes (by_name map) db name place stands.holds (had tells map store (stands_over _ map db stands))) c.in_err-rows.ensures.bad))
 
 pub returns-in_err-answer-clause-told : goal.returns-in_err-answer-clause-told
 returns-in_err-answer-clause-told g c tells map store =
     let p = err_from_is_err_and c.from_residual-in_err-answer.result c.from_residual-in_err-answer.ensures.1 in
-    short_tells (λ db. select db c.args.query.now) _ map _ _ store (c.in_ok-rows.ensures.told tells map store) p.0 _ p.1 p.2
+    short_tells (λ db. select db c.args.query.now) _ map _ _ store (c.in_ok-rows.ensures.looks tells map store) p.0 _ p.1 p.2
+
+pub candidates-requires-clause-held : goal.candidates-requires-clause-held
+candidates-requires-clause-held g c = sym c.in-Some.ensures
 
 pub returns-clause-told : goal.returns-clause-told
 returns-clause-told g c tells map store =
     let query = c.args.query.now in
     let def = c.in-Some.def.now in
     let rows = c.in_ok-rows.rows in
-    let read = λ (all : List Row) (holds : HoldsSpots (by_name map) query.table def all). c.in_ok-rows.ensures.rows tells map store all holds ∙ ap (flat_map (wanted_in def query all)) (c.items.ensures ∙ c.in_ok-spots.ensures) in
-    answered_tells (λ db. select db query) _ map _ _ store (c.in_ok-rows.ensures.told tells map store) (select_text def.columns query.items (arranged def.columns query.tail rows)) _
-    (select_answered _ map c.requires.«open» query def (sym c.in-Some.ensures) rows (sym c.in_default-refusal_of.ensures.refusal) read) c.in_ok-answer.ensures
+    answered_tells (λ db. select db query) _ map _ _ store (c.in_ok-rows.ensures.looks tells map store) (select_text def.columns query.items rows) _
+    (select_answered _ map c.requires.«open» query def (sym c.in-Some.ensures) rows (sym c.in_default-refusal_of.ensures.refusal) (c.in_ok-rows.ensures.rows tells map store)) c.in_ok-answer.ensures

@@ -1,0 +1,3 @@
+pub mod OneBook
+pub mod Spots
+pub mod Exits

@@ -1,0 +1,4 @@
+pub mod OfActions
+pub mod OfStatements
+pub mod Whole
+pub mod Storing

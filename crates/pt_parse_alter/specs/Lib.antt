@@ -1,0 +1,3 @@
+pub mod Statements
+pub mod Spelling
+pub mod Reader
