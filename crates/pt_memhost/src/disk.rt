@@ -1,4 +1,4 @@
-ghost use Rattle.std.specs.Prelude.{◌≡◌, ◌<◌, IfOk, OnOk, OnErr, IfSome, length, option_copied, ℕ, List as Listed};
+ghost use Rattle.std.specs.Prelude.{◌≡◌, ◌<◌, IfOk, MatchResult, IfSome, length, option_copied, ℕ, List as Listed};
 ghost use Rattle.pt_host.specs.Disk.{IsSound, present, shown, created, with_op, on_file, overwrite, torn, synced, names_synced};
 ghost use Rattle.pt_host.specs.Listed.{by_name};
 ghost use Rattle.pt_memhost.specs.Pick.{picked};
@@ -44,16 +44,14 @@ impl Disk {
 
     /// Makes a change of names, which is pending until the next sync of names. Want of memory leaves all as it was.
     pub(crate) fn change_names(&mut self, change: NameChange) -> Result<(), AllocError>
-        ensures ok { OnOk result (fs_of self.new ≡ with_op (op_of change) (fs_of self.old)) }
-        ensures err { OnErr result (fs_of self.new ≡ fs_of self.old) }
+        ensures kept { MatchResult result (λ _. fs_of self.new ≡ with_op (op_of change) (fs_of self.old)) (λ _. fs_of self.new ≡ fs_of self.old) }
     {
         change_pending(&mut self.names, &mut self.pending, change)
     }
 
     /// Makes an empty file. Want of memory leaves all as it was.
     pub(crate) fn create(&mut self, alloc: Global, name: Name) -> Result<(), AllocError>
-        ensures ok { OnOk result (fs_of self.new ≡ created name (fs_of self.old)) }
-        ensures err { OnErr result (fs_of self.new ≡ fs_of self.old) }
+        ensures kept { MatchResult result (λ _. fs_of self.new ≡ created name (fs_of self.old)) (λ _. fs_of self.new ≡ fs_of self.old) }
     {
         self.objects.reserve(1)?;
         let number = self.objects.len();
@@ -85,12 +83,14 @@ impl Disk {
         bytes: &[u8],
     ) -> Result<(), AllocError>
         requires { IsSound (fs_of self.old) }
-        ensures ok { OnOk result (fs_of self.new ≡ on_file (present (fs_of self.old) name.now) (λ o. torn at count (overwrite at bytes.now o.bytes) o) (fs_of self.old)) }
-        ensures err { OnErr result (fs_of self.new ≡ fs_of self.old) }
+        ensures kept { MatchResult result (λ _. fs_of self.new ≡ on_file (present (fs_of self.old) name.now) (λ o. torn at count (overwrite at bytes.now o.bytes) o) (fs_of self.old)) (λ _. fs_of self.new ≡ fs_of self.old) }
     {
         match self.number(name) {
             None => Ok(()),
-            Some(number) => self.objects[number].put(at, count, bytes),
+            Some(number) => {
+                self.objects[number].put(at, count, bytes)?;
+                Ok(())
+            }
         }
     }
 
@@ -106,8 +106,7 @@ impl Disk {
 
     /// Makes the present names sure. Want of memory leaves all as it was.
     pub(crate) fn sync_names(&mut self) -> Result<(), AllocError>
-        ensures ok { OnOk result (fs_of self.new ≡ names_synced (fs_of self.old)) }
-        ensures err { OnErr result (fs_of self.new ≡ fs_of self.old) }
+        ensures kept { MatchResult result (λ _. fs_of self.new ≡ names_synced (fs_of self.old)) (λ _. fs_of self.new ≡ fs_of self.old) }
     {
         self.settled = self.names.clone()?;
         self.pending.clear();

@@ -1,4 +1,4 @@
-ghost use Rattle.std.specs.Prelude.{◌≡◌, ◌<◌, [], length, IfOk, OnOk, OnErr, option_copied, ℕ, List as Listed};
+ghost use Rattle.std.specs.Prelude.{◌≡◌, ◌<◌, [], length, IfOk, MatchResult, OnOk, OnErr, option_copied, ℕ, List as Listed};
 ghost use Rattle.pt_host.specs.Disk.{shown, IsImage};
 ghost use Rattle.pt_host.specs.Listed.{by_name};
 ghost use Rattle.pt_host.specs.World.{Takes, after_take};
@@ -58,9 +58,8 @@ impl Kept {
 
     /// Does what an event says, and keeps it. Want of memory leaves all as it was.
     pub(crate) fn run(&mut self, event: Event) -> Result<(), AllocError>
-        ensures ok { OnOk result (self.new ≡ with_event self.old event) }
+        ensures kept { MatchResult result (λ _. self.new ≡ with_event self.old event) (λ _. self.new ≡ self.old) }
         ensures world { OnOk result (world_of self.new ≡ after_event event (world_of self.old)) }
-        ensures err { OnErr result (self.new ≡ self.old) }
     {
         self.events.reserve(1)?;
         self.state.change(self.alloc, &event)?;

@@ -1,4 +1,4 @@
-ghost use Rattle.std.specs.Prelude.{◌≡◌, [], ◌∷◌, ◌++◌, OnOk, OnErr, Some, None};
+ghost use Rattle.std.specs.Prelude.{◌≡◌, [], ◌∷◌, ◌++◌, MatchResult, Some, None};
 ghost use Rattle.pt_host.specs.Disk.{Names as DiskNames, after_op, put, moved};
 ghost use Rattle.pt_memhost.specs.Names.{named, op_of, IsSeen};
 
@@ -24,8 +24,7 @@ pub(crate) enum NameChange {
 /// Gives the name this object. Want of memory leaves all as it was.
 #[tactic(auto, using(crate::proofs::Named::updates))]
 pub(crate) fn set(names: &mut Names, name: Name, object: usize) -> Result<(), AllocError>
-    ensures ok { OnOk result (named names.new ≡ put (named names.old) name (Some object)) }
-    ensures err { OnErr result (named names.new ≡ named names.old) }
+    ensures kept { MatchResult result (λ _. named names.new ≡ put (named names.old) name (Some object)) (λ _. named names.new ≡ named names.old) }
 {
     names.insert(name, object)?;
     Ok(())
@@ -41,8 +40,7 @@ fn clear(names: &mut Names, name: &Name)
 
 /// What `from` has is `to`'s, where there is such a name. Want of memory leaves all as it was.
 fn move_name(names: &mut Names, from: &Name, to: Name) -> Result<(), AllocError>
-    ensures ok { OnOk result (named names.new ≡ moved (named names.old) from.now to (named names.old from.now)) }
-    ensures err { OnErr result (named names.new ≡ named names.old) }
+    ensures kept { MatchResult result (λ _. named names.new ≡ moved (named names.old) from.now to (named names.old from.now)) (λ _. named names.new ≡ named names.old) }
 {
     if let Some(object) = names.get(from).copied() {
         set(names, to, object)?;
@@ -55,8 +53,7 @@ fn move_name(names: &mut Names, from: &Name, to: Name) -> Result<(), AllocError>
 
 /// Makes a change, or none where a name that is to be moved isn't there. Want of memory leaves all as it was.
 pub(crate) fn change(names: &mut Names, change: &NameChange) -> Result<(), AllocError>
-    ensures ok { OnOk result (named names.new ≡ after_op (op_of change.now) (named names.old)) }
-    ensures err { OnErr result (named names.new ≡ named names.old) }
+    ensures kept { MatchResult result (λ _. named names.new ≡ after_op (op_of change.now) (named names.old)) (λ _. named names.new ≡ named names.old) }
 {
     match change {
         NameChange::Made(name, object) => set(names, *name, *object)?,
@@ -74,8 +71,7 @@ pub(crate) fn change_pending(
     to: NameChange,
 ) -> Result<(), AllocError>
     ensures seen { (settled : DiskNames) → IsSeen names.old pending.old.items settled → IsSeen names.new pending.new.items settled }
-    ensures ok { OnOk result (pending.new.items ≡ pending.old.items ++ to ∷ []) }
-    ensures err { OnErr result (pending.new.items ≡ pending.old.items) }
+    ensures kept { MatchResult result (λ _. pending.new.items ≡ pending.old.items ++ to ∷ []) (λ _. pending.new.items ≡ pending.old.items) }
 {
     pending.reserve(1)?;
     change(names, &to)?;

@@ -1,4 +1,4 @@
-ghost use Rattle.std.specs.Prelude.{◌≡◌, ◌+◌, ◌<◌, ◌≤◌, [], length, cond, IfOk, OnOk, OnErr};
+ghost use Rattle.std.specs.Prelude.{◌≡◌, ◌+◌, ◌<◌, ◌≤◌, [], length, cond, IfOk, MatchResult};
 ghost use Rattle.std.specs.List.{list_any};
 ghost use Rattle.pt_host.specs.Disk.{empty_object, overwrite, torn, synced};
 ghost use Rattle.pt_memhost.specs.Names.{is_in, ranges_of};
@@ -59,8 +59,7 @@ impl FileObject {
     /// Writes bytes over those from place `at` on, and leaves `count` bytes from there loose. Want of memory leaves all as
     /// it was.
     pub(crate) fn put(&mut self, at: u64, count: u64, bytes: &[u8]) -> Result<(), AllocError>
-        ensures ok { OnOk result (self.new ≡ torn at count (overwrite at bytes.now self.old.bytes) self.old) }
-        ensures err { OnErr result (self.new ≡ self.old) }
+        ensures kept { MatchResult result (λ _. self.new ≡ torn at count (overwrite at bytes.now self.old.bytes) self.old) (λ _. self.new ≡ self.old) }
     {
         self.loose.reserve(1)?;
         overwrite(&mut self.bytes, at as usize, bytes)?;
@@ -93,8 +92,7 @@ impl FileObject {
 
 /// Writes bytes over those from place `at` on, or at the end where there are fewer. Want of memory leaves all as it was.
 fn overwrite(file: &mut Vec<u8>, at: usize, bytes: &[u8]) -> Result<(), AllocError>
-    ensures ok { OnOk result (file.new.items ≡ overwrite at bytes.now file.old.items) }
-    ensures err { OnErr result (file.new.items ≡ file.old.items) }
+    ensures kept { MatchResult result (λ _. file.new.items ≡ overwrite at bytes.now file.old.items) (λ _. file.new.items ≡ file.old.items) }
 {
     let from = at.min(file.len());
     let inside = bytes.len().min(file.len() - from);

@@ -1,4 +1,4 @@
-ghost use Rattle.std.specs.Prelude.{◌≡◌, ◌≤◌, ℕ, length, drop, IfOk, OnOk, OnErr, option_copied, List as Listed};
+ghost use Rattle.std.specs.Prelude.{◌≡◌, ◌≤◌, ℕ, length, drop, IfOk, MatchResult, option_copied, List as Listed};
 ghost use Rattle.pt_host.specs.Disk.{IsSound, shown, created, with_op};
 ghost use Rattle.pt_host.specs.Listed.{by_name};
 ghost use Rattle.pt_memhost.specs.Pick.{picked};
@@ -52,8 +52,7 @@ impl State {
     /// Does what an event says. Want of memory leaves all as it was.
     pub(crate) fn change(&mut self, alloc: Global, event: &Event) -> Result<(), AllocError>
         requires { IsSound (fs_of self.old.disk) }
-        ensures ok { (w : World) → Mirrors w self.old → OnOk result (Mirrors (after_event event.now w) self.new) }
-        ensures err { (w : World) → Mirrors w self.old → OnErr result (Mirrors w self.new) }
+        ensures kept { (w : World) → Mirrors w self.old → MatchResult result (λ _. Mirrors (after_event event.now w) self.new) (λ _. Mirrors w self.new) }
         ensures input { self.new.input ≡ self.old.input }
     {
         match event {
@@ -79,8 +78,7 @@ impl State {
     /// Writes bytes at a place, as the first of `count` ones.
     fn write(&mut self, name: &Name, at: u64, count: u64, bytes: &[u8]) -> Result<(), AllocError>
         requires { IsSound (fs_of self.old.disk) }
-        ensures ok { (w : World) → Mirrors w self.old → OnOk result (Mirrors (after_torn_by name.now at count bytes.now w) self.new) }
-        ensures err { (w : World) → Mirrors w self.old → OnErr result (Mirrors w self.new) }
+        ensures kept { (w : World) → Mirrors w self.old → MatchResult result (λ _. Mirrors (after_torn_by name.now at count bytes.now w) self.new) (λ _. Mirrors w self.new) }
         ensures input { self.new.input ≡ self.old.input }
     {
         self.disk.put(name, at, count, bytes)?;
@@ -98,24 +96,21 @@ impl State {
     }
 
     fn create(&mut self, alloc: Global, name: Name) -> Result<(), AllocError>
-        ensures ok { (w : World) → Mirrors w self.old → OnOk result (Mirrors (after_fs (created name w.now.fs) w) self.new) }
-        ensures err { (w : World) → Mirrors w self.old → OnErr result (Mirrors w self.new) }
+        ensures kept { (w : World) → Mirrors w self.old → MatchResult result (λ _. Mirrors (after_fs (created name w.now.fs) w) self.new) (λ _. Mirrors w self.new) }
         ensures input { self.new.input ≡ self.old.input }
     {
         self.disk.create(alloc, name)
     }
 
     fn change_names(&mut self, change: NameChange) -> Result<(), AllocError>
-        ensures ok { (w : World) → Mirrors w self.old → OnOk result (Mirrors (after_fs (with_op (op_of change) w.now.fs) w) self.new) }
-        ensures err { (w : World) → Mirrors w self.old → OnErr result (Mirrors w self.new) }
+        ensures kept { (w : World) → Mirrors w self.old → MatchResult result (λ _. Mirrors (after_fs (with_op (op_of change) w.now.fs) w) self.new) (λ _. Mirrors w self.new) }
         ensures input { self.new.input ≡ self.old.input }
     {
         self.disk.change_names(change)
     }
 
     fn sync_names(&mut self) -> Result<(), AllocError>
-        ensures ok { (w : World) → Mirrors w self.old → OnOk result (Mirrors (after_sync_names w) self.new) }
-        ensures err { (w : World) → Mirrors w self.old → OnErr result (Mirrors w self.new) }
+        ensures kept { (w : World) → Mirrors w self.old → MatchResult result (λ _. Mirrors (after_sync_names w) self.new) (λ _. Mirrors w self.new) }
         ensures input { self.new.input ≡ self.old.input }
     {
         self.disk.sync_names()?;
@@ -132,8 +127,7 @@ impl State {
     }
 
     fn say(&mut self, bytes: &[u8]) -> Result<(), AllocError>
-        ensures ok { (w : World) → Mirrors w self.old → OnOk result (Mirrors (after_say bytes.now w) self.new) }
-        ensures err { (w : World) → Mirrors w self.old → OnErr result (Mirrors w self.new) }
+        ensures kept { (w : World) → Mirrors w self.old → MatchResult result (λ _. Mirrors (after_say bytes.now w) self.new) (λ _. Mirrors w self.new) }
         ensures input { self.new.input ≡ self.old.input }
     {
         self.said.extend_from_slice(bytes)?;

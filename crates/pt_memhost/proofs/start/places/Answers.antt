@@ -6,7 +6,7 @@ use Rattle.pt_memhost.proofs.start.places.Goals as goal
 
 pub loop-place-preserved : goal.loop-place-preserved
 loop-place-preserved c =
-    c.in_ok-set.ensures.ok
+    c.in_ok-set.ensures.kept
     ∙ ap (λ (names : Names). put names c.index-files-place.result.0 (Some (c.loop-place.place - 1))) c.loop-place.invariant
     ∙ places_step (c.loop-place.place - 1) c.loop-place.place c.args.files.now c.index-files-place.result (omega arith) (omega arith) c.index-files-place.is
 

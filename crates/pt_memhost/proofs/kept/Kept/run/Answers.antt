@@ -12,7 +12,7 @@ invariant_of-self-2 c =
     mirrors_more c.self.inside.files c.self.inside.state.input c.change.new.self.input c.self.inside.events.items c.add_last.new.list.items c.args.event c.change.new.self
     c.in_ok-change.ensures.input
     (c.add_last.ensures ∙ ap (λ events. events ++ c.args.event ∷ []) c.in_ok-reserve.ensures.items)
-    (c.in_ok-change.ensures.ok _ c.self.invariant)
+    (c.in_ok-change.ensures.kept _ c.self.invariant)
 
 pub returns-clause-world : goal.returns-clause-world
 returns-clause-world c =

@@ -4,8 +4,8 @@ use Rattle.pt_memhost.specs.Memory.{capped}
 use Rattle.pt_memhost.specs.Law.{IsSaid, say_said}
 use Rattle.pt_memhost.proofs.state.State.say.Goals as goal
 
-pub returns-clause-ok : goal.returns-clause-ok
-returns-clause-ok c = λ (w : World) m.
+pub returns-clause-kept : goal.returns-clause-kept
+returns-clause-kept c = λ (w : World) m.
     let h : IsSaid c.args.bytes.now w (after_say c.args.bytes.now w) = say_said c.args.bytes.now w in
     record {
       input_is = h.input ∙ m.input_is;
