@@ -43,16 +43,16 @@ names_same p q [] = refl
 names_same p q (text.Column name written options ∷ items) = ap (λ l. name ∷ l) (names_same p q items)
 names_same p q (text.Key rank name columns ∷ items) = names_same p q items
 
-beside_same : (p names : List (List ℕ)) (before : List Item) (own : Item) → names ≡ names_of (columns_of before) → bad_item p before own ≡ bad_item_beside p names own
+pub beside_same : (p names : List (List ℕ)) (before : List Item) (own : Item) → names ≡ names_of (columns_of before) → bad_item p before own ≡ bad_item_beside p names own
 beside_same p names before (text.Column name written options) is =
     ap (λ l. bad_written_column (kind_of written) (is_not_null p name options) options l name) (sym is)
 beside_same p names before (text.Key rank name columns) is = refl
 
-names_one : (p : List (List ℕ)) (own : Item) → names_of (columns_added p own) ≡ names_added own
+pub names_one : (p : List (List ℕ)) (own : Item) → names_of (columns_added p own) ≡ names_added own
 names_one p (text.Column name written options) = refl
 names_one p (text.Key rank name columns) = refl
 
-added_one : (p : List (List ℕ)) (own : Item) → filter_map (column_in p) (own ∷ []) ≡ columns_added p own
+pub added_one : (p : List (List ℕ)) (own : Item) → filter_map (column_in p) (own ∷ []) ≡ columns_added p own
 added_one p (text.Column name written options) = refl
 added_one p (text.Key rank name columns) = refl
 

@@ -112,12 +112,12 @@ listed_first before part all = record { made = refl; named = sym (append-nil bef
 abbrev pub second : Named → List ℕ
 second named = named.1
 
-beside_turns : (before : List Named) (part : List ℕ) (names : List (List ℕ)) → in_turn_from bad_name before (map (λ (name : List ℕ). (part, name)) names) ≡ bad_names_beside (map second before) part names
+pub beside_turns : (before : List Named) (part : List ℕ) (names : List (List ℕ)) → in_turn_from bad_name before (map (λ (name : List ℕ). (part, name)) names) ≡ bad_names_beside (map second before) part names
 beside_turns before part [] = refl
 beside_turns before part (name ∷ names) =
     ap (option_or (bad_name before (part, name))) (beside_turns (before ++ (part, name) ∷ []) part names ∙ ap (λ l. bad_names_beside l part names) (map-append second before ((part, name) ∷ [])))
 
-second_subs : (part : List ℕ) (names : List (List ℕ)) → map second (map (λ (name : List ℕ). (part, name)) names) ≡ names
+pub second_subs : (part : List ℕ) (names : List (List ℕ)) → map second (map (λ (name : List ℕ). (part, name)) names) ≡ names
 second_subs part [] = refl
 second_subs part (name ∷ names) = ap (λ l. name ∷ l) (second_subs part names)
 
@@ -178,7 +178,7 @@ module _ (all : List PartDef) (i : ℕ) (names : List (List ℕ)) (parts : List 
   pub named_none : length all ≤ i → bad_names all ≡ None
   named_none past = sym so.checked ∙ at_drop_all (λ ps. in_turn_from bad_name (flat_map named_in (take i all)) (flat_map named_in ps)) all i past
 
-part_as : List ℕ → List (List Bound) → List (List ℕ) → PartDef
+pub part_as : List ℕ → List (List Bound) → List (List ℕ) → PartDef
 part_as name bounds subs = record { name = name; bounds = bounds; subs = subs }
 
 pub made_part : (sub : Option SubSpec) (count i : ℕ) (name : List ℕ) (bounds : List (List Bound)) (subs : List (List ℕ)) → name ≡ codes "p" ++ decimal i → bounds ≡ [] → subs ≡ subs_named sub count name None

@@ -39,11 +39,11 @@ use Rattle.pt_complete.specs.Making.{bad_bounds_or_names, bare_in}
 
 -- ---- bounds don't depend on the names of subpartitions
 
-place_same : (p q : ℕ → Bool) → ((n : ℕ) → p n ≡ q n) → (ns : List ℕ) → position_or_len p ns ≡ position_or_len q ns
+pub place_same : (p q : ℕ → Bool) → ((n : ℕ) → p n ≡ q n) → (ns : List ℕ) → position_or_len p ns ≡ position_or_len q ns
 place_same p q so [] = refl
 place_same p q so (n ∷ ns) = rw (so n, place_same p q so ns) refl
 
-position_same : (p q : ℕ → Bool) → ((n : ℕ) → p n ≡ q n) → (ns : List ℕ) → position p ns ≡ position q ns
+pub position_same : (p q : ℕ → Bool) → ((n : ℕ) → p n ≡ q n) → (ns : List ℕ) → position p ns ≡ position q ns
 position_same p q so ns = rw (place_same p q so ns) refl
 
 module _ (kinds : List Kind) (kind : PartBy) (sub : Option SubSpec) (count : ℕ) where
@@ -105,7 +105,7 @@ module _ (kinds : List Kind) (kind : PartBy) (sub : Option SubSpec) (count : ℕ
     bounds_same (by.Hash linear expr) = refl
     bounds_same (by.Key linear numbers) = refl
 
-no_bounds : (own : PartBy) (columns : List Column) (keys : List KeyDef) (m : MainSpec) → own ≡ by_of columns keys m → needs_parts m ≡ false → (parts : List PartDef) → None ≡ bad_bounds own parts
+pub no_bounds : (own : PartBy) (columns : List Column) (keys : List KeyDef) (m : MainSpec) → own ≡ by_of columns keys m → needs_parts m ≡ false → (parts : List PartDef) → None ≡ bad_bounds own parts
 no_bounds own columns keys (main.Range expr) is needs parts = cc
 no_bounds own columns keys (main.List expr) is needs parts = cc
 no_bounds own columns keys (main.RangeColumns names) is needs parts = cc
@@ -118,7 +118,7 @@ pub and_true : (b : Bool) → (b && true) ≡ false → b ≡ false
 and_true true e = e
 and_true false e = refl
 
-bounds_in : (kinds : List Kind) (kind : PartBy) (sub : Option SubSpec) (count : ℕ) (columns : List Column) (keys : List KeyDef) (m : MainSpec) (made : List PartDef) (parts : Option (List PartItem))
+pub bounds_in : (kinds : List Kind) (kind : PartBy) (sub : Option SubSpec) (count : ℕ) (columns : List Column) (keys : List KeyDef) (m : MainSpec) (made : List PartDef) (parts : Option (List PartItem))
     → kind ≡ by_of columns keys m → (needs_parts m && is_none parts) ≡ false
     → bad_bounds kind (map (bare_in kinds kind) (option_map_or (λ (own : List PartItem). own) parts [])) ≡ bad_bounds kind (option_map_or (λ own. map (part_in kinds kind sub count) own) parts made)
 unfolding whole bare
@@ -128,11 +128,11 @@ bounds_in kinds kind sub count columns keys m made None is needs =
 
 -- ---- one check after another
 
-abbrev chain : List (Option Refusal) → Option Refusal → Option Refusal
+abbrev pub chain : List (Option Refusal) → Option Refusal → Option Refusal
 chain [] rest = rest
 chain (check ∷ checks) rest = option_or check (chain checks rest)
 
-first_chain : (checks : List (Option Refusal)) (rest : Option Refusal) → option_or (first_of checks) rest ≡ chain checks rest
+pub first_chain : (checks : List (Option Refusal)) (rest : Option Refusal) → option_or (first_of checks) rest ≡ chain checks rest
 first_chain [] rest = refl
 first_chain (check ∷ checks) rest = or_assoc check (first_of checks) rest ∙ ap (option_or check) (first_chain checks rest)
 
@@ -232,7 +232,7 @@ module _ (table : List ℕ) (def : TableDef) (spec : PartSpec) (is_by : def.by �
 
 -- ---- the whole
 
-column_counted : (p : List (List ℕ)) (x : Item) (xs : List Item) → length (filter_map (column_in p) (x ∷ xs)) ≡ cond (is_column x) (1 + length (filter_map (column_in p) xs)) (length (filter_map (column_in p) xs))
+pub column_counted : (p : List (List ℕ)) (x : Item) (xs : List Item) → length (filter_map (column_in p) (x ∷ xs)) ≡ cond (is_column x) (1 + length (filter_map (column_in p) xs)) (length (filter_map (column_in p) xs))
 column_counted p (text.Column name written options) xs = omega arith
 column_counted p (text.Key rank name columns) xs = refl
 
@@ -264,7 +264,7 @@ module _ (table : List ℕ) (spec : TableSpec) where
 pub columns_few : (spec : TableSpec) (columns : List Column) → columns ≡ columns_of spec.items → count_by is_column spec.items ≤ 1_000_000 → length columns ≤ 1_000_000
 columns_few spec columns is few = rw (is, length_columns (primary_names spec.items) spec.items) few
 
-abbrev whole_table : List Column → List KeyDef → List PartDef → TableDef
+abbrev pub whole_table : List Column → List KeyDef → List PartDef → TableDef
 whole_table columns keys parts = record { columns = columns; keys = keys; by = by.Whole; sub = by.Whole; parts = parts }
 
 module _ (table : List ℕ) (spec : TableSpec) (columns : List Column) (keys : List KeyDef) where

@@ -38,7 +38,7 @@ use Rattle.pt_complete.specs.Making.{AreConstants, CanKeep, IsConstant, IsConsta
 
 -- ---- an item
 
-sound_finding : (less : Bool) (k : Kind) (v : Value) (found : Result ExprKind CheckFault)
+pub sound_finding : (less : Bool) (k : Kind) (v : Value) (found : Result ExprKind CheckFault)
     → is_wrong_finding less k v found ≡ false → is_wide_finding found ≡ false → is_out_finding k v found ≡ false → IsConstantFinding k v found
 sound_finding less k v (Ok kind) wrong wide out = (not_false _ (first_false _ _ wrong), not_false _ out)
 sound_finding less k v (Err fault.Mismatch) wrong wide out = absurd (cc)
@@ -46,13 +46,13 @@ sound_finding less k v (Err (fault.NoColumn name)) wrong wide out = absurd (cc)
 sound_finding less k v (Err fault.TooWide) wrong wide out = absurd (cc)
 sound_finding less k v (Err fault.BadDate) wrong wide out = absurd (cc)
 
-sound_item : (less : Bool) (k : Kind) (item : BoundSpec) → is_wrong_item less k item ≡ false → is_wide_item k item ≡ false → is_out_item k item ≡ false → IsConstant k item
+pub sound_item : (less : Bool) (k : Kind) (item : BoundSpec) → is_wrong_item less k item ≡ false → is_wide_item k item ≡ false → is_out_item k item ≡ false → IsConstant k item
 sound_item less k written.Max wrong wide out = tt
 sound_item less k (written.Value expr) wrong wide out = sound_finding less k (worth k expr) (item_finding k expr) (second_false _ _ wrong) wide out
 
 -- ---- a tuple, and the tuples
 
-sound_items : (less : Bool) (kinds : List Kind) (items : List BoundSpec)
+pub sound_items : (less : Bool) (kinds : List Kind) (items : List BoundSpec)
     → has_item (is_wrong_item less) kinds items ≡ false → has_item is_wide_item kinds items ≡ false → has_item is_out_item kinds items ≡ false → AreConstants kinds items
 sound_items less (k ∷ kinds) (item ∷ items) wrong wide out =
     (sound_item less k item (first_false _ _ wrong) (first_false _ _ wide) (first_false _ _ out), sound_items less kinds items (second_false _ _ wrong) (second_false _ _ wide) (second_false _ _ out))
@@ -70,7 +70,7 @@ sound_tuples less kinds (tuple ∷ tuples) wrong wide out =
 
 -- ---- partitions
 
-sound_found : (table : List ℕ) (columns : List Column) (by : PartBy) (name : List ℕ) (values : Option ValuesSpec) (found : Option (List (List BoundSpec)))
+pub sound_found : (table : List ℕ) (columns : List Column) (by : PartBy) (name : List ℕ) (values : Option ValuesSpec) (found : Option (List (List BoundSpec)))
     → (found ≡ None) ⊎ (found ≡ Some (tuples_written values)) → bad_tuples table (kinds_of columns by) (is_range by) name found ≡ None
     → (found ≡ Some (tuples_written values)) × All (AreConstants (kinds_of columns by)) (tuples_written values)
 sound_found table columns by name values None either none = absurd (cc)
@@ -79,7 +79,7 @@ sound_found table columns by name values (Some tuples) (inr e) none =
     let is : tuples ≡ tuples_written values = cc in
     (e, rw (sym is) (sound_tuples (is_range by) (kinds_of columns by) tuples (passes _ _ (none_first _ _ none)) (passes _ _ (none_first _ _ (none_next _ _ none))) (passes _ _ (none_first _ _ (none_next _ _ (none_next _ _ none))))))
 
-sound_part : (table : List ℕ) (columns : List Column) (by : PartBy) (part : PartItem) → bad_written_values table (kinds_of columns by) by part ≡ None → IsPartSound columns by part
+pub sound_part : (table : List ℕ) (columns : List Column) (by : PartBy) (part : PartItem) → bad_written_values table (kinds_of columns by) by part ≡ None → IsPartSound columns by part
 sound_part table columns by part none = sound_found table columns by part.name part.values (tuples_in by part.values) (form by part.values) none
 
 pub sound_parts : (table : List ℕ) (columns : List Column) (by : PartBy) (parts : List PartItem) → first_in (bad_written_values table (kinds_of columns by) by) parts ≡ None → All (IsPartSound columns by) parts
@@ -89,7 +89,7 @@ sound_parts table columns by (part ∷ parts) none =
 
 -- ---- what an item comes to
 
-wide_kind : (k : Kind) (kind : ExprKind) (n : ℤ) → has_kind k kind ≡ true → is_in_range k (value.Int n) ≡ true → HasKind kind (value.Int n) → CanKeep (value.Int n)
+pub wide_kind : (k : Kind) (kind : ExprKind) (n : ℤ) → has_kind k kind ≡ true → is_in_range k (value.Int n) ≡ true → HasKind kind (value.Int n) → CanKeep (value.Int n)
 wide_kind k expr.Any n is within has = absurd has
 wide_kind k expr.Day n is within has = absurd has
 wide_kind k expr.Bytes n is within has = absurd has
@@ -121,20 +121,20 @@ pub next_constants : (kinds : List Kind) (items : List BoundSpec) (i : ℕ) (k :
     → AreConstants (drop i kinds) (drop i items) → AreConstants (drop (i + 1) kinds) (drop (i + 1) items)
 next_constants kinds items i k item within here is so = rw add-one (all_constants kinds items i k item within here is so).1
 
-tuple_step : (kinds : List Kind) (items : List BoundSpec) (i : ℕ) (k : Kind) (item : BoundSpec) → i < length items → slice_get kinds i ≡ Some k → item ≡ get_or items i item
+pub tuple_step : (kinds : List Kind) (items : List BoundSpec) (i : ℕ) (k : Kind) (item : BoundSpec) → i < length items → slice_get kinds i ≡ Some k → item ≡ get_or items i item
     → tuple_of (drop i kinds) (drop i items) ≡ bound_of k item ∷ tuple_of (drop (suc i) kinds) (drop (suc i) items)
 tuple_step kinds [] i k item within here is = absurd (omega (arith, within))
 tuple_step [] (b ∷ bs) i k item within here is = cc
 tuple_step (own ∷ kinds) (b ∷ bs) zero k item within here is = let same : own ≡ k = cc in rw (same, is) refl
 tuple_step (own ∷ kinds) (b ∷ bs) (suc i) k item within here is = tuple_step kinds bs i k item (omega (arith, within)) here is
 
-tuple_none : (kinds : List Kind) (i : ℕ) (items : List BoundSpec) → slice_get kinds i ≡ None → tuple_of (drop i kinds) items ≡ []
+pub tuple_none : (kinds : List Kind) (i : ℕ) (items : List BoundSpec) → slice_get kinds i ≡ None → tuple_of (drop i kinds) items ≡ []
 tuple_none [] zero items none = refl
 tuple_none [] (suc i) items none = refl
 tuple_none (own ∷ kinds) zero items none = cc
 tuple_none (own ∷ kinds) (suc i) items none = tuple_none kinds i items none
 
-tuple_nil : (kinds : List Kind) → tuple_of kinds [] ≡ []
+pub tuple_nil : (kinds : List Kind) → tuple_of kinds [] ≡ []
 tuple_nil [] = refl
 tuple_nil (k ∷ kinds) = refl
 

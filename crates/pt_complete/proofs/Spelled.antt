@@ -15,10 +15,10 @@ no_fault bytes Empty ident bad = omega (arith, ident.some, bad)
 no_fault bytes TooLong ident bad = omega (arith, ident.fits, bad)
 no_fault bytes (BadByte place) ident bad = let each : IsTrue (is_ident_byte (slice_index bytes place)) = ident.each place 0 bad.1.there in let wrong = bad.1.bad in cc
 
-digit_ident : (n : ℕ) → n < 10 → IsTrue (is_ident_byte (48 + n))
+pub digit_ident : (n : ℕ) → n < 10 → IsTrue (is_ident_byte (48 + n))
 digit_ident n small = grind (arith, small)
 
-one_byte : (b : ℕ) → IsTrue (is_ident_byte b) → All (λ b. IsTrue (is_ident_byte b)) (b ∷ [])
+pub one_byte : (b : ℕ) → IsTrue (is_ident_byte b) → All (λ b. IsTrue (is_ident_byte b)) (b ∷ [])
 one_byte b is = All-cons (λ b. IsTrue (is_ident_byte b)) b [] is (All-nil (λ b. IsTrue (is_ident_byte b)))
 
 pub decimal_ident : (n : ℕ) → n < 2 ^ 64 → All (λ b. IsTrue (is_ident_byte b)) (decimal n)

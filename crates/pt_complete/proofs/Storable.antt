@@ -68,19 +68,19 @@ module _ (table : List ℕ) (columns : List Column) where
   sub_storable (Some sub) so none = (hash_storable [] sub.hash (omega arith, All-nil (λ number. number < length columns)) so.hash none, hash_sub sub.hash)
   sub_storable None so none = (tt, tt)
 
-hash_whole : (columns : List Column) (instead : List ℕ) (h : HashSpec) → is_whole (by_hash columns instead h) ≡ false
+pub hash_whole : (columns : List Column) (instead : List ℕ) (h : HashSpec) → is_whole (by_hash columns instead h) ≡ false
 hash_whole columns instead (hash.Hash linear expr) = refl
 hash_whole columns instead (hash.Key linear []) = refl
 hash_whole columns instead (hash.Key linear (name ∷ names)) = refl
 
-by_whole : (columns : List Column) (keys : List KeyDef) (m : MainSpec) → is_whole (by_of columns keys m) ≡ false
+pub by_whole : (columns : List Column) (keys : List KeyDef) (m : MainSpec) → is_whole (by_of columns keys m) ≡ false
 by_whole columns keys (main.Range expr) = refl
 by_whole columns keys (main.List expr) = refl
 by_whole columns keys (main.RangeColumns names) = refl
 by_whole columns keys (main.ListColumns names) = refl
 by_whole columns keys (main.Hash h) = hash_whole columns (columns_for_rows columns keys) h
 
-never_alone : (kind sub : PartBy) (parts : List PartDef) → is_whole kind ≡ false → IsWholeAlone kind sub parts
+pub never_alone : (kind sub : PartBy) (parts : List PartDef) → is_whole kind ≡ false → IsWholeAlone kind sub parts
 never_alone by.Whole sub parts some = absurd (cc)
 never_alone (by.Range expr) sub parts some = tt
 never_alone (by.List expr) sub parts some = tt
@@ -91,28 +91,28 @@ never_alone (by.Key linear numbers) sub parts some = tt
 
 -- ---- partitions
 
-hash_bounds : (columns : List Column) (instead : List ℕ) (h : HashSpec) → AreBoundsOf (by_hash columns instead h) []
+pub hash_bounds : (columns : List Column) (instead : List ℕ) (h : HashSpec) → AreBoundsOf (by_hash columns instead h) []
 hash_bounds columns instead (hash.Hash linear expr) = refl
 hash_bounds columns instead (hash.Key linear []) = refl
 hash_bounds columns instead (hash.Key linear (name ∷ names)) = refl
 
 -- where definitions aren't needed, there are no bounds
-no_bounds : (columns : List Column) (keys : List KeyDef) (m : MainSpec) → needs_parts m ≡ false → AreBoundsOf (by_of columns keys m) []
+pub no_bounds : (columns : List Column) (keys : List KeyDef) (m : MainSpec) → needs_parts m ≡ false → AreBoundsOf (by_of columns keys m) []
 no_bounds columns keys (main.Range expr) needs = absurd (cc)
 no_bounds columns keys (main.List expr) needs = absurd (cc)
 no_bounds columns keys (main.RangeColumns names) needs = absurd (cc)
 no_bounds columns keys (main.ListColumns names) needs = absurd (cc)
 no_bounds columns keys (main.Hash h) needs = hash_bounds columns (columns_for_rows columns keys) h
 
-hash_subs : (columns : List Column) (h : HashSpec) (names : List (List ℕ)) → IsCounted names → AreSubsOf (by_hash columns [] h) names
+pub hash_subs : (columns : List Column) (h : HashSpec) (names : List (List ℕ)) → IsCounted names → AreSubsOf (by_hash columns [] h) names
 hash_subs columns (hash.Hash linear expr) names few = few
 hash_subs columns (hash.Key linear []) names few = few
 hash_subs columns (hash.Key linear (name ∷ names)) subs few = few
 
-names_counted : (name : List ℕ) (count : ℕ) → length (sub_names name count) ≡ count
+pub names_counted : (name : List ℕ) (count : ℕ) → length (sub_names name count) ≡ count
 names_counted name count = length-map-range_with_len (λ i. name ++ codes "sp" ++ decimal i) 0 count
 
-subs_storable : (columns : List Column) (o : Option SubSpec) (count : ℕ) (name : List ℕ) (written : Option (List (List ℕ))) → count ≤ 8192 → IfSome written (HasAtLeast 1) → AreSubsOf (sub_of columns o) (subs_named o count name written)
+pub subs_storable : (columns : List Column) (o : Option SubSpec) (count : ℕ) (name : List ℕ) (written : Option (List (List ℕ))) → count ≤ 8192 → IfSome written (HasAtLeast 1) → AreSubsOf (sub_of columns o) (subs_named o count name written)
 subs_storable columns None count name written few so = refl
 subs_storable columns (Some sub) count name (Some names) few so = hash_subs columns sub.hash names so.1
 subs_storable columns (Some sub) count name None few so = hash_subs columns sub.hash (subs_named (Some sub) count name None) (omega (arith, few, names_counted name count))
@@ -153,29 +153,29 @@ module _ (table : List ℕ) (columns : List Column) (kind : PartBy) (o : Option 
 
 -- ---- checks of which none refuses
 
-some_of_seven : (a b c d e f g : Option Refusal) → first_of (a ∷ b ∷ c ∷ d ∷ e ∷ f ∷ g ∷ []) ≡ None → (d ≡ None) × (e ≡ None) × (g ≡ None)
+pub some_of_seven : (a b c d e f g : Option Refusal) → first_of (a ∷ b ∷ c ∷ d ∷ e ∷ f ∷ g ∷ []) ≡ None → (d ≡ None) × (e ≡ None) × (g ≡ None)
 some_of_seven a b c d e f g none =
     let later = none_next c _ (none_next b _ (none_next a _ none)) in
     let last = none_next f _ (none_next e _ (none_next d _ later)) in
     (none_first d _ later, none_first e _ (none_next d _ later), none_first g _ last)
 
-fourth_of_six : (a b c d e f : Option Refusal) → first_of (a ∷ b ∷ c ∷ d ∷ e ∷ f ∷ []) ≡ None → d ≡ None
+pub fourth_of_six : (a b c d e f : Option Refusal) → first_of (a ∷ b ∷ c ∷ d ∷ e ∷ f ∷ []) ≡ None → d ≡ None
 fourth_of_six a b c d e f none = none_first d _ (none_next c _ (none_next b _ (none_next a _ none)))
 
-each_of_three : (a b c : Option Refusal) → first_of (a ∷ b ∷ c ∷ []) ≡ None → (a ≡ None) × (b ≡ None) × (c ≡ None)
+pub each_of_three : (a b c : Option Refusal) → first_of (a ∷ b ∷ c ∷ []) ≡ None → (a ≡ None) × (b ≡ None) × (c ≡ None)
 each_of_three a b c none = (none_first a _ none, none_first b _ (none_next a _ none), none_first c _ (none_next b _ (none_next a _ none)))
 
 -- ---- columns, keys, and what a table is partitioned by
 
 module _ (table : List ℕ) (columns : List Column) (keys : List KeyDef) where
   -- the columns and keys of a table are storable
-  record AreSound : Type 0 where
-    some : HasAtLeast 1 columns
-    most : length columns ≤ 1_000_000
-    each_column : All IsStorableColumn columns
-    limited : All IsLimited (map (λ (column : Column). column.kind) columns)
-    few : IsCounted keys
-    each_key : All (IsStorableKey (length columns)) keys
+  pub record AreSound : Type 0 where
+    pub some : HasAtLeast 1 columns
+    pub most : length columns ≤ 1_000_000
+    pub each_column : All IsStorableColumn columns
+    pub limited : All IsLimited (map (λ (column : Column). column.kind) columns)
+    pub few : IsCounted keys
+    pub each_key : All (IsStorableKey (length columns)) keys
 
   spec_passed : (spec : PartSpec) → bad_spec table columns keys spec ≡ None
       → (bad_main table columns spec.main ≡ None) × (bad_sub table columns spec.sub ≡ None) × (bad_parts table columns (by_of columns keys spec.main) spec ≡ None)
@@ -185,7 +185,7 @@ module _ (table : List ℕ) (columns : List Column) (keys : List KeyDef) where
       let sub = sub_of columns spec.sub in
       some_of_seven (sub_of_number table kind sub) (key_of_none kind) (key_of_none sub) (bad_main table columns spec.main) (bad_sub table columns spec.sub) (lacking_key columns keys kind sub) (bad_parts table columns kind spec) none
 
-  spec_storable : (spec : PartSpec) → AreSound → IsStorablePartSpec spec → bad_spec table columns keys spec ≡ None → IsStorableDef (partitioned columns keys (Some spec))
+  pub spec_storable : (spec : PartSpec) → AreSound → IsStorablePartSpec spec → bad_spec table columns keys spec ≡ None → IsStorableDef (partitioned columns keys (Some spec))
   spec_storable spec sound so none =
       let passed = spec_passed spec none in
       let of_parts : bad_parts table columns (by_of columns keys spec.main) spec ≡ None = passed.2 in
@@ -217,7 +217,7 @@ module _ (table : List ℕ) (columns : List Column) (keys : List KeyDef) where
         parts = both.1;
       }
 
-  if_storable : (spec : Option PartSpec) → AreSound → IfSome spec IsStorablePartSpec → bad_spec_if table columns keys spec ≡ None → IsStorableDef (partitioned columns keys spec)
+  pub if_storable : (spec : Option PartSpec) → AreSound → IfSome spec IsStorablePartSpec → bad_spec_if table columns keys spec ≡ None → IsStorableDef (partitioned columns keys spec)
   if_storable (Some spec) sound so none = spec_storable spec sound so none
   if_storable None sound so none = record {
     some = sound.some;
@@ -234,7 +234,7 @@ module _ (table : List ℕ) (columns : List Column) (keys : List KeyDef) where
 
 -- ---- a text has a column
 
-some_columns : (primary : List (List ℕ)) (items : List Item) → HasAtLeast 1 items → All IsStorableItem items → in_turn_from (bad_written_key (filter_map (column_in primary) items)) [] (keys_written items) ≡ None
+pub some_columns : (primary : List (List ℕ)) (items : List Item) → HasAtLeast 1 items → All IsStorableItem items → in_turn_from (bad_written_key (filter_map (column_in primary) items)) [] (keys_written items) ≡ None
     → 0 < length (filter_map (column_in primary) items)
 some_columns primary [] some so none = absurd (omega (arith, some.0))
 some_columns primary (text.Column name written options ∷ items) some so none = omega arith
@@ -246,7 +246,7 @@ some_columns primary (text.Key rank name columns ∷ items) some so none = by (f
 
 -- ---- the whole
 
-text_passed : (table : List ℕ) (spec : TableSpec) → written_refusal table spec ≡ None
+pub text_passed : (table : List ℕ) (spec : TableSpec) → written_refusal table spec ≡ None
     → (in_turn (bad_item (primary_names spec.items)) spec.items ≡ None) × (in_turn (bad_written_key (columns_of spec.items)) (keys_written spec.items) ≡ None)
     × (bad_spec_if table (columns_of spec.items) (keys_of (columns_of spec.items) spec.items) spec.by ≡ None)
 unfolding written_refusal
@@ -274,7 +274,7 @@ definition_storable table spec so none few =
     keys_few None few = few
 
 -- what is made of a text is storable, where its keys are counted
-made_storable : (table : List ℕ) (spec : TableSpec) (def : TableDef) → IsStorableSpec spec → Ok def ≡ complete_of table spec → IsCounted def.keys → IsStorableDef def
+pub made_storable : (table : List ℕ) (spec : TableSpec) (def : TableDef) → IsStorableSpec spec → Ok def ≡ complete_of table spec → IsCounted def.keys → IsStorableDef def
 made_storable table spec def so is few =
     let both = made_ok (written_refusal table spec) (definition_of spec) def is in
     subst IsStorableDef (sym both.1) (definition_storable table spec so both.0 (subst (λ (own : TableDef). IsCounted own.keys) both.1 few))

@@ -46,17 +46,17 @@ use Rattle.pt_complete.specs.Making.{AreConstants, IsConstant, IsConstantExpr, I
 
 -- ---- numbers and days have no bytes
 
-abbrev HasNoBytes : Value → Type 0
+abbrev pub HasNoBytes : Value → Type 0
 HasNoBytes (value.Bytes bytes) = ⊥
 HasNoBytes _ = Unit {0}
 
-number_none : (f : ℤ → ℤ) (v : Value) → HasNoBytes (on_number f v)
+pub number_none : (f : ℤ → ℤ) (v : Value) → HasNoBytes (on_number f v)
 number_none f value.Null = tt
 number_none f (value.Int n) = tt
 number_none f (value.Day day) = tt
 number_none f (value.Bytes bytes) = tt
 
-numbers_none : (f : ℤ → ℤ → ℤ) (v w : Value) → HasNoBytes (on_numbers f v w)
+pub numbers_none : (f : ℤ → ℤ → ℤ) (v w : Value) → HasNoBytes (on_numbers f v w)
 numbers_none f value.Null w = tt
 numbers_none f (value.Int n) value.Null = tt
 numbers_none f (value.Int n) (value.Int m) = tt
@@ -65,17 +65,17 @@ numbers_none f (value.Int n) (value.Bytes bytes) = tt
 numbers_none f (value.Day day) w = tt
 numbers_none f (value.Bytes bytes) w = tt
 
-day_none : (f : ℤ → ℤ) (v : Value) → HasNoBytes (on_day f v)
+pub day_none : (f : ℤ → ℤ) (v : Value) → HasNoBytes (on_day f v)
 day_none f value.Null = tt
 day_none f (value.Int n) = tt
 day_none f (value.Day day) = tt
 day_none f (value.Bytes bytes) = tt
 
-date_none : (o : Option ℤ) → HasNoBytes (day_or_null o)
+pub date_none : (o : Option ℤ) → HasNoBytes (day_or_null o)
 date_none (Some day) = tt
 date_none None = tt
 
-call_none : (f : Func) (v : Value) → HasNoBytes (call f v)
+pub call_none : (f : Func) (v : Value) → HasNoBytes (call f v)
 call_none func.Abs v = number_none _ v
 call_none func.Year v = day_none _ (as_day v)
 call_none func.Month v = day_none _ (as_day v)
@@ -86,20 +86,20 @@ call_none func.Weekday v = day_none _ (as_day v)
 call_none func.Quarter v = day_none _ (as_day v)
 call_none func.ToDays v = day_none _ (as_day v)
 
-sum_none : (v : Value) → HasNoBytes v → (parts : List (Bool × Value)) → HasNoBytes (fold plus v parts)
+pub sum_none : (v : Value) → HasNoBytes v → (parts : List (Bool × Value)) → HasNoBytes (fold plus v parts)
 sum_none v none [] = none
 sum_none v none (part ∷ parts) = sum_none (plus v part) (numbers_none _ v part.1) parts
 
-factors_none : (v : Value) → HasNoBytes v → (parts : List (Op × Value)) → HasNoBytes (fold times v parts)
+pub factors_none : (v : Value) → HasNoBytes v → (parts : List (Op × Value)) → HasNoBytes (fold times v parts)
 factors_none v none [] = none
 factors_none v none (part ∷ parts) = factors_none (times v part) (numbers_none _ v part.1) parts
 
-product_none : (v : Value) (parts : List (Op × Expr)) → HasAtLeast 1 parts → HasNoBytes (fold times v (map {B = Op × Value} (λ (p : Op × Expr). (p.0, value [] [] p.1)) parts))
+pub product_none : (v : Value) (parts : List (Op × Expr)) → HasAtLeast 1 parts → HasNoBytes (fold times v (map {B = Op × Value} (λ (p : Op × Expr). (p.0, value [] [] p.1)) parts))
 product_none v [] some = absurd (omega (arith, some.0))
 product_none v (part ∷ parts) some =
     factors_none (times v (part.0, value [] [] part.1)) (numbers_none _ v (value [] [] part.1)) (map {B = Op × Value} (λ (p : Op × Expr). (p.0, value [] [] p.1)) parts)
 
-no_bytes_short : (v : Value) → HasNoBytes v → IsShortValue v
+pub no_bytes_short : (v : Value) → HasNoBytes v → IsShortValue v
 no_bytes_short value.Null none = tt
 no_bytes_short (value.Int n) none = tt
 no_bytes_short (value.Day day) none = tt
@@ -107,20 +107,20 @@ no_bytes_short (value.Bytes bytes) none = absurd none
 
 -- ---- a constant of integers and days has none
 
-text_wrong : (k : Kind) (v : Value) (o : Option ℤ) → has_kind k expr.Bytes ≡ false → IsConstantFinding k v (kind_finding false (text_shape o)) → ⊥
+pub text_wrong : (k : Kind) (v : Value) (o : Option ℤ) → has_kind k expr.Bytes ≡ false → IsConstantFinding k v (kind_finding false (text_shape o)) → ⊥
 text_wrong k v (Some day) other is = cc
 text_wrong k v None other is = cc
 
-hex_wrong : (k : Kind) (v : Value) → has_kind k expr.Bytes ≡ false → IsConstantFinding k v (Ok expr.Bytes) → ⊥
+pub hex_wrong : (k : Kind) (v : Value) → has_kind k expr.Bytes ≡ false → IsConstantFinding k v (Ok expr.Bytes) → ⊥
 hex_wrong k v other is = cc
 
-abbrev valued : Expr-F Expr → Value
+abbrev pub valued : Expr-F Expr → Value
 valued layer = value_step [] [] (map-Expr Expr Value (value [] []) layer)
 
-abbrev found_in : Bool → Expr-F Expr → Result ExprKind CheckFault
+abbrev pub found_in : Bool → Expr-F Expr → Result ExprKind CheckFault
 found_in date layer = after (finding_step [] (map-Expr Expr Finding (finding []) layer)) (λ found. kind_finding date found.shape)
 
-layer_none : (k : Kind) (date : Bool) → has_kind k expr.Bytes ≡ false → (layer : Expr-F Expr) → IsStorableNode layer → IsConstantFinding k (wanted date layer (valued layer)) (found_in date layer) → HasNoBytes (wanted date layer (valued layer))
+pub layer_none : (k : Kind) (date : Bool) → has_kind k expr.Bytes ≡ false → (layer : Expr-F Expr) → IsStorableNode layer → IsConstantFinding k (wanted date layer (valued layer)) (found_in date layer) → HasNoBytes (wanted date layer (valued layer))
 layer_none k true other (Expr-F.Number n) so is = tt
 layer_none k true other (Expr-F.Text bytes) so is = date_none (day_of bytes)
 layer_none k true other (Expr-F.Hex bytes) so is = absurd (hex_wrong k _ other is)
@@ -143,7 +143,7 @@ layer_none k false other (Expr-F.Product first parts) so is = product_none (valu
 layer_none k false other (Expr-F.Call called part) so is = call_none called (value [] [] part)
 
 -- an item of another kind than bytes
-other_short : (k : Kind) (x : Expr) → has_kind k expr.Bytes ≡ false → IsStorableExpr x → IsConstantExpr k x → IsShortValue (worth k x)
+pub other_short : (k : Kind) (x : Expr) → has_kind k expr.Bytes ≡ false → IsStorableExpr x → IsConstantExpr k x → IsShortValue (worth k x)
 other_short k x other so is =
     let valued_out = fold_out-Expr Value (value_step [] []) x in
     let found_out = fold_out-Expr Finding (finding_step []) x in
@@ -153,32 +153,32 @@ other_short k x other so is =
     subst (λ (v : Value). IsShortValue (wanted (is_date k) (out-Expr x) v)) (sym valued_out)
     (no_bytes_short _ (layer_none k (is_date k) other (out-Expr x) (every_here-Expr IsStorableNode x so.nodes) opened))
 
-bytes_short : (most : ℕ) (v : Value) (found : Result ExprKind CheckFault) → is_too_long (kind.Binary most) ≡ false → IsConstantFinding (kind.Binary most) v found → IsShortValue v
+pub bytes_short : (most : ℕ) (v : Value) (found : Result ExprKind CheckFault) → is_too_long (kind.Binary most) ≡ false → IsConstantFinding (kind.Binary most) v found → IsShortValue v
 bytes_short most value.Null found long is = tt
 bytes_short most (value.Int n) found long is = tt
 bytes_short most (value.Day day) found long is = tt
 bytes_short most (value.Bytes bytes) (Ok own) long is = grind (arith, long, is.1)
 bytes_short most (value.Bytes bytes) (Err fault) long is = absurd is
 
-short_worth : (k : Kind) (x : Expr) → is_too_long k ≡ false → IsStorableExpr x → IsConstantExpr k x → IsShortValue (worth k x)
+pub short_worth : (k : Kind) (x : Expr) → is_too_long k ≡ false → IsStorableExpr x → IsConstantExpr k x → IsShortValue (worth k x)
 short_worth kind.Int x long so is = other_short kind.Int x refl so is
 short_worth kind.BigInt x long so is = other_short kind.BigInt x refl so is
 short_worth kind.Date x long so is = other_short kind.Date x refl so is
 short_worth (kind.Binary most) x long so is = bytes_short most (worth (kind.Binary most) x) (item_finding (kind.Binary most) x) long is
 
-short_bound : (k : Kind) (item : BoundSpec) → is_too_long k ≡ false → IsStorableBound item → IsConstant k item → IsShortBound (bound_of k item)
+pub short_bound : (k : Kind) (item : BoundSpec) → is_too_long k ≡ false → IsStorableBound item → IsConstant k item → IsShortBound (bound_of k item)
 short_bound k written.Max long so is = tt
 short_bound k (written.Value x) long so is = short_worth k x long so is
 
 -- ---- kinds of items
 
-kind_limited : (ks : List Kind) (n : ℕ) → All IsLimited ks → IsLimited (slice_index_or ks n kind.BigInt)
+pub kind_limited : (ks : List Kind) (n : ℕ) → All IsLimited ks → IsLimited (slice_index_or ks n kind.BigInt)
 kind_limited [] zero so = refl
 kind_limited [] (suc n) so = refl
 kind_limited (k ∷ ks) zero so = All-head IsLimited k ks so
 kind_limited (k ∷ ks) (suc n) so = kind_limited ks n (All-tail IsLimited k ks so)
 
-items_limited : (columns : List Column) (numbers : List ℕ) → All IsLimited (map (λ (column : Column). column.kind) columns) → All IsLimited (map (kind_at columns) numbers)
+pub items_limited : (columns : List Column) (numbers : List ℕ) → All IsLimited (map (λ (column : Column). column.kind) columns) → All IsLimited (map (kind_at columns) numbers)
 items_limited columns [] so = All-nil IsLimited
 items_limited columns (number ∷ numbers) so =
     All-cons IsLimited (kind_at columns number) (map (kind_at columns) numbers) (kind_limited (map (λ (column : Column). column.kind) columns) number so) (items_limited columns numbers so)
@@ -194,26 +194,26 @@ kinds_limited columns (by.Key linear numbers) so = All-nil IsLimited
 
 -- ---- tuples
 
-tuple_short : (kinds : List Kind) (items : List BoundSpec) → All IsLimited kinds → All IsStorableBound items → AreConstants kinds items → All IsShortBound (tuple_of kinds items)
+pub tuple_short : (kinds : List Kind) (items : List BoundSpec) → All IsLimited kinds → All IsStorableBound items → AreConstants kinds items → All IsShortBound (tuple_of kinds items)
 tuple_short [] items limited so are = All-nil IsShortBound
 tuple_short (k ∷ kinds) [] limited so are = All-nil IsShortBound
 tuple_short (k ∷ kinds) (item ∷ items) limited so are =
     All-cons IsShortBound (bound_of k item) (tuple_of kinds items) (short_bound k item (All-head IsLimited k kinds limited) (All-head IsStorableBound item items so) are.0)
     (tuple_short kinds items (All-tail IsLimited k kinds limited) (All-tail IsStorableBound item items so) are.1)
 
-tuple_length : (kinds : List Kind) (items : List BoundSpec) → length items ≡ length kinds → length (tuple_of kinds items) ≡ length kinds
+pub tuple_length : (kinds : List Kind) (items : List BoundSpec) → length items ≡ length kinds → length (tuple_of kinds items) ≡ length kinds
 tuple_length [] [] same = refl
 tuple_length [] (item ∷ items) same = refl
 tuple_length (k ∷ kinds) [] same = absurd (omega (arith, same))
 tuple_length (k ∷ kinds) (item ∷ items) same = ap suc (tuple_length kinds items (omega (arith, same)))
 
-equal : (m n : ℕ) → (m == n) ≡ true → m ≡ n
+pub equal : (m n : ℕ) → (m == n) ≡ true → m ≡ n
 equal m n is = grind (arith, is)
 
-abbrev AreStorable : List BoundSpec → Type 0
+abbrev pub AreStorable : List BoundSpec → Type 0
 AreStorable items = All IsStorableBound items
 
-tuples_storable : (less : Bool) (kinds : List Kind) (tuples : List (List BoundSpec)) → All IsLimited kinds → All AreStorable tuples → list_any (is_wrong_written less kinds) tuples ≡ false → All (AreConstants kinds) tuples
+pub tuples_storable : (less : Bool) (kinds : List Kind) (tuples : List (List BoundSpec)) → All IsLimited kinds → All AreStorable tuples → list_any (is_wrong_written less kinds) tuples ≡ false → All (AreConstants kinds) tuples
     → All (IsStorableTuple (length kinds)) (map (tuple_of kinds) tuples)
 tuples_storable less kinds [] limited so wrong are = All-nil (IsStorableTuple (length kinds))
 tuples_storable less kinds (tuple ∷ tuples) limited so wrong are =
@@ -232,17 +232,17 @@ module _ (table : List ℕ) (kinds : List Kind) (less : Bool) (name : List ℕ) 
       tuples_storable less kinds tuples limited so wrong
       (sound_tuples less kinds tuples wrong (passes _ _ (none_first _ _ (none_next _ _ none))) (passes _ _ (none_first _ _ (none_next _ _ (none_next _ _ none)))))
 
-max_storable : AreStorable (written.Max ∷ [])
+pub max_storable : AreStorable (written.Max ∷ [])
 max_storable = All-cons IsStorableBound written.Max [] tt (All-nil IsStorableBound)
 
-one_tuple : (items : List BoundSpec) → AreStorable items → All AreStorable (items ∷ [])
+pub one_tuple : (items : List BoundSpec) → AreStorable items → All AreStorable (items ∷ [])
 one_tuple items so = All-cons AreStorable items [] so (All-nil AreStorable)
 
-entry_storable : (own : Entry) → IsStorableEntry own → AreStorable (entry_items own)
+pub entry_storable : (own : Entry) → IsStorableEntry own → AreStorable (entry_items own)
 entry_storable (entry.One item) so = All-cons IsStorableBound item [] so (All-nil IsStorableBound)
 entry_storable (entry.Many items) so = so.1
 
-entries_storable : (entries : List Entry) → All IsStorableEntry entries → All AreStorable (map entry_items entries)
+pub entries_storable : (entries : List Entry) → All IsStorableEntry entries → All AreStorable (map entry_items entries)
 entries_storable [] so = All-nil AreStorable
 entries_storable (own ∷ entries) so =
     All-cons AreStorable (entry_items own) (map entry_items entries) (entry_storable own (All-head IsStorableEntry own entries so)) (entries_storable entries (All-tail IsStorableEntry own entries so))

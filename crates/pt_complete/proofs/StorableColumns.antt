@@ -18,7 +18,7 @@ use Rattle.pt_written.specs.Complete.{bad_item}
 use Rattle.pt_written.specs.Written.{but_null, column_in, default_in, is_not_null, kind_of}
 use Rattle.pt_complete.proofs.Kept.{first_false, second_false}
 
-short_default : (k : Kind) (not_null : Bool) (o : Option Value) → is_too_long k ≡ false → is_default_out k o ≡ false → is_default_wrong k not_null o ≡ false → IfSome (but_null o) IsShortValue
+pub short_default : (k : Kind) (not_null : Bool) (o : Option Value) → is_too_long k ≡ false → is_default_out k o ≡ false → is_default_wrong k not_null o ≡ false → IfSome (but_null o) IsShortValue
 short_default k not_null None long out wrong = tt
 short_default k not_null (Some value.Null) long out wrong = tt
 short_default k not_null (Some (value.Int n)) long out wrong = tt

@@ -31,11 +31,11 @@ use Rattle.pt_complete.proofs.Layers.{all_both, by_kids, every_kids, every_roll,
 
 -- ---- columns named as the table does, layer by layer
 
-abbrev name_layer : List Column → Expr-F Expr → Expr-F Expr
+abbrev pub name_layer : List Column → Expr-F Expr → Expr-F Expr
 name_layer columns (Expr-F.Column name) = Expr-F.Column (own_name columns name)
 name_layer columns node = node
 
-abbrev renamed_layer : List Column → Expr-F Expr → Expr-F Expr
+abbrev pub renamed_layer : List Column → Expr-F Expr → Expr-F Expr
 renamed_layer columns layer = name_layer columns (map-Expr Expr Expr (renamed columns) layer)
 
 module _ (columns : List Column) where
@@ -141,58 +141,58 @@ module _ (columns : List Column) where
 
 -- ---- what a sound part is found to be: an integer, a day or a text that spells one
 
-abbrev IsFine : Finding → Type 0
+abbrev pub IsFine : Finding → Type 0
 IsFine (Ok found) = (may_be_wide found.shape || may_be_day found.shape) ≡ true
 IsFine (Err fault) = ⊥
 
-abbrev is_wide : Finding → Bool
+abbrev pub is_wide : Finding → Bool
 is_wide (Ok part) = may_be_wide part.shape
 is_wide (Err fault) = false
 
-abbrev is_taken : Op → Finding → Bool
+abbrev pub is_taken : Op → Finding → Bool
 is_taken o (Ok part) = takes o part
 is_taken o (Err fault) = false
 
-or_left : (a b : Bool) → a ≡ true → (a || b) ≡ true
+pub or_left : (a b : Bool) → a ≡ true → (a || b) ≡ true
 or_left true b is = refl
 or_left false b is = absurd (cc)
 
-wide_fine : (r : Finding) → is_wide r ≡ true → IsFine r
+pub wide_fine : (r : Finding) → is_wide r ≡ true → IsFine r
 wide_fine (Ok part) is = or_left (may_be_wide part.shape) (may_be_day part.shape) is
 wide_fine (Err fault) is = absurd (cc)
 
-abbrev is_written : Finding → Bool
+abbrev pub is_written : Finding → Bool
 is_written (Ok part) = is_literal part.shape
 is_written (Err fault) = false
 
-written_wide : (r : Finding) → is_written r ≡ true → is_wide r ≡ true
+pub written_wide : (r : Finding) → is_written r ≡ true → is_wide r ≡ true
 written_wide (Ok part) is = grind (arith, is)
 written_wide (Err fault) is = is
 
-taken_fine : (o : Op) (r : Finding) → is_taken o r ≡ true → IsFine r
+pub taken_fine : (o : Op) (r : Finding) → is_taken o r ≡ true → IsFine r
 taken_fine op.Times (Ok part) is = wide_fine (Ok part) is
 taken_fine op.Div (Ok part) is = wide_fine (Ok part) (written_wide (Ok part) (both_left (is_literal part.shape) _ is))
 taken_fine op.Mod (Ok part) is = wide_fine (Ok part) (written_wide (Ok part) (both_left (is_literal part.shape) _ is))
 taken_fine o (Err fault) is = absurd (cc)
 
 -- where a test decides between a finding and a fault, and the finding is fine, the test holds
-chosen : (b : Bool) (r : Finding) (f : CheckFault) → IsFine (cond b r (Err f)) → b ≡ true
+pub chosen : (b : Bool) (r : Finding) (f : CheckFault) → IsFine (cond b r (Err f)) → b ≡ true
 chosen true r f is = refl
 chosen false r f is = absurd is
 
-neg_fine : (r : Finding) → IsFine (after r negation) → IsFine r
+pub neg_fine : (r : Finding) → IsFine (after r negation) → IsFine r
 neg_fine (Ok part) is = wide_fine (Ok part) (chosen (may_be_wide part.shape) _ _ is)
 neg_fine (Err fault) is = is
 
-abs_fine : (r : Finding) → IsFine (after r absolute) → IsFine r
+pub abs_fine : (r : Finding) → IsFine (after r absolute) → IsFine r
 abs_fine (Ok part) is = wide_fine (Ok part) (chosen (may_be_wide part.shape) _ _ is)
 abs_fine (Err fault) is = is
 
-part_fine : (bound : ℕ) (r : Finding) → IsFine (after r (λ part. day_part bound part.shape)) → IsFine r
+pub part_fine : (bound : ℕ) (r : Finding) → IsFine (after r (λ part. day_part bound part.shape)) → IsFine r
 part_fine bound (Ok part) is = grind (arith, is)
 part_fine bound (Err fault) is = is
 
-call_fine : (f : Func) (r : Finding) → IsFine (after r (call_finding f)) → IsFine r
+pub call_fine : (f : Func) (r : Finding) → IsFine (after r (call_finding f)) → IsFine r
 call_fine func.Abs r is = abs_fine r is
 call_fine func.Year r is = part_fine 9999 r is
 call_fine func.Month r is = part_fine 12 r is
@@ -224,19 +224,19 @@ module _ {A : Type 0} (test : A → Bool) where
   all_pass [] is = tt
   all_pass (f ∷ fs) is = let both = one_passes f (all_found fs) is in (both.0, all_pass fs both.1)
 
-passes_wide : (r : Finding) → Passes (λ part. is_wide (Ok part)) r → IsFine r
+pub passes_wide : (r : Finding) → Passes (λ part. is_wide (Ok part)) r → IsFine r
 passes_wide (Ok part) is = wide_fine (Ok part) is
 passes_wide (Err fault) is = absurd is
 
-passes_taken : (o : Op) (r : Finding) → Passes (λ (part : Op × _). is_taken part.0 (Ok part.1)) (beside o r) → IsFine r
+pub passes_taken : (o : Op) (r : Finding) → Passes (λ (part : Op × _). is_taken part.0 (Ok part.1)) (beside o r) → IsFine r
 passes_taken o (Ok part) is = taken_fine o (Ok part) is
 passes_taken o (Err fault) is = absurd is
 
-sum_wide : (r : _) → IsFine (after r sum_finding) → AllPass (λ part. is_wide (Ok part)) r
+pub sum_wide : (r : _) → IsFine (after r sum_finding) → AllPass (λ part. is_wide (Ok part)) r
 sum_wide (Ok parts) is = chosen _ _ _ is
 sum_wide (Err fault) is = is
 
-product_taken : (first : Finding) (r : _) → IsFine (after first (λ found. after r (product_finding found))) → IsFine first × AllPass (λ (part : Op × _). is_taken part.0 (Ok part.1)) r
+pub product_taken : (first : Finding) (r : _) → IsFine (after first (λ found. after r (product_finding found))) → IsFine first × AllPass (λ (part : Op × _). is_taken part.0 (Ok part.1)) r
 product_taken (Ok first) (Ok parts) is =
     let both = chosen _ _ _ is in
     (wide_fine (Ok first) (both_left (may_be_wide first.shape) _ both), both_right (may_be_wide first.shape) _ both)
@@ -245,18 +245,18 @@ product_taken (Err fault) r is = absurd is
 
 -- ---- each node is kept
 
-short_text : (bytes : List ℕ) (o : Option ℤ) → day_of bytes ≡ o → IsFine (Ok (other (text_shape o))) → IsShort bytes
+pub short_text : (bytes : List ℕ) (o : Option ℤ) → day_of bytes ≡ o → IsFine (Ok (other (text_shape o))) → IsShort bytes
 short_text bytes (Some day) spelled fine = omega (arith, ap length (day_of-spells bytes day spelled).text)
 short_text bytes None spelled fine = absurd (cc)
 
-fit_date : (o : Option ℤ) → IsFine (date_finding o) → IsFitDate o
+pub fit_date : (o : Option ℤ) → IsFine (date_finding o) → IsFitDate o
 fit_date (Some day) is = by (chosen (fits_date day) _ _ is)
   where
     by : fits_date day ≡ true → FitsDate day
     by fits = grind (arith, ints, fits)
 fit_date None is = is
 
-is_there : (name : List ℕ) (columns : List Column) (own : Column) → column_named name columns ≡ Some own → Any (λ (column : Column). column.name ≡ own.name) columns
+pub is_there : (name : List ℕ) (columns : List Column) (own : Column) → column_named name columns ≡ Some own → Any (λ (column : Column). column.name ≡ own.name) columns
 is_there name [] own found = absurd (cc)
 is_there name (column ∷ columns) own found = by (is_named name column) found (is_there name columns own)
   where
@@ -265,7 +265,7 @@ is_there name (column ∷ columns) own found = by (is_named name column) found (
     by true found later = (0, column, omega arith, refl, cc)
     by false found later = let m = later found in (suc m.0, m.1, omega (arith, m.2), m.3, m.4)
 
-own_there : (name : List ℕ) (columns : List Column) (o : Option Column) → column_named name columns ≡ o → IsFine (column_finding name o)
+pub own_there : (name : List ℕ) (columns : List Column) (o : Option Column) → column_named name columns ≡ o → IsFine (column_finding name o)
     → Any (λ (column : Column). column.name ≡ option_map_or (λ (own : Column). own.name) o name) columns
 own_there name columns (Some own) found is = is_there name columns own found
 own_there name columns None found is = absurd is
@@ -320,7 +320,7 @@ module _ (columns : List Column) where
 
 -- ---- the whole expression is an integer
 
-whole_fine : (table : List ℕ) (names : Bool) (r : Finding) → of_finding table names (after r (λ found. kind_finding false found.shape)) ≡ None → IsFine r
+pub whole_fine : (table : List ℕ) (names : Bool) (r : Finding) → of_finding table names (after r (λ found. kind_finding false found.shape)) ≡ None → IsFine r
 whole_fine table names (Ok found) none = grind (arith, none)
 whole_fine table names (Err fault) none = cc
 

@@ -27,7 +27,7 @@ use Rattle.pt_written.specs.Written.{KeyText, columns_for_rows, is_full_unique, 
 
 -- ---- lists of columns
 
-there : (n len : ℕ) → is_none (cond (nat_lt n len) (Some n) None) ≡ false → n < len
+pub there : (n len : ℕ) → is_none (cond (nat_lt n len) (Some n) None) ≡ false → n < len
 there n len e = by (nat_lt n len) refl
   where
     by : (b : Bool) → nat_lt n len ≡ b → n < len
@@ -37,14 +37,14 @@ there n len e = by (nat_lt n len) refl
         no : (true ≡ false) → ⊥
         no x = cc
 
-places_within : (columns : List Column) (names : List (List ℕ)) → first_in (no_column columns) names ≡ None → All (λ number. number < length columns) (places_of columns names)
+pub places_within : (columns : List Column) (names : List (List ℕ)) → first_in (no_column columns) names ≡ None → All (λ number. number < length columns) (places_of columns names)
 places_within columns [] none = All-nil (λ number. number < length columns)
 places_within columns (name ∷ names) none =
     All-cons (λ number. number < length columns) _ (places_of columns names)
     (there (position_or_len (is_named name) columns) (length columns) (passes _ _ (none_first _ _ none)))
     (places_within columns names (none_next _ _ none))
 
-places_length : (columns : List Column) (names : List (List ℕ)) → length (places_of columns names) ≡ length names
+pub places_length : (columns : List Column) (names : List (List ℕ)) → length (places_of columns names) ≡ length names
 places_length columns names = length-map names (λ name. position_or_len (is_named name) columns)
 
 pub are_positions : (columns : List Column) (names : List (List ℕ)) → bad_list columns names ≡ None → IsCounted names → ArePositions (length columns) (places_of columns names)
@@ -56,12 +56,12 @@ are_some_positions columns names none some =
 
 -- ---- keys
 
-named_as : (columns : List Column) (key : KeyText) (r : Rank) → key.rank ≡ r → IsNamedByRank r (key_name columns key)
+pub named_as : (columns : List Column) (key : KeyText) (r : Rank) → key.rank ≡ r → IsNamedByRank r (key_name columns key)
 named_as columns key rank.Primary is = rw is refl
 named_as columns key rank.Unique is = tt
 named_as columns key rank.Plain is = tt
 
-key_storable : (columns : List Column) (key : KeyText) → bad_list columns key.columns ≡ None → HasAtLeast 1 key.columns → IsStorableKey (length columns) (key_of columns key)
+pub key_storable : (columns : List Column) (key : KeyText) → bad_list columns key.columns ≡ None → HasAtLeast 1 key.columns → IsStorableKey (length columns) (key_of columns key)
 key_storable columns key none some = record {
   columns = are_some_positions columns key.columns none some;
   name = named_as columns key key.rank refl;
@@ -79,7 +79,7 @@ keys_storable columns before (key ∷ keys) none some =
     (key_storable columns key (none_first _ _ (none_first _ _ none)) (All-head HasColumns key keys some))
     (keys_storable columns (before ++ key ∷ []) keys (none_next _ _ none) (All-tail HasColumns key keys some))
 
-own_some : (name : List ℕ) (options : List ColOption) → All HasColumns (filter_map (key_option name) options)
+pub own_some : (name : List ℕ) (options : List ColOption) → All HasColumns (filter_map (key_option name) options)
 own_some name [] = All-nil HasColumns
 own_some name (option.NotNull ∷ options) = own_some name options
 own_some name (option.Null ∷ options) = own_some name options
@@ -96,7 +96,7 @@ keys_some (text.Key rank name columns ∷ items) so =
 
 -- ---- keys alone: there is no column for them to list
 
-none_there : (names : List (List ℕ)) → HasAtLeast 1 names → first_in (no_column []) names ≡ None → ⊥
+pub none_there : (names : List (List ℕ)) → HasAtLeast 1 names → first_in (no_column []) names ≡ None → ⊥
 none_there [] some none = omega (arith, some.0)
 none_there (name ∷ names) some none = found (first_in (no_column []) names) none
   where
@@ -110,7 +110,7 @@ keyless before (key ∷ keys) some has none = none_there key.columns (All-head H
 
 -- ---- KEY without columns
 
-found_key : (width : ℕ) (test : KeyDef → Bool) (keys : List KeyDef) → All (IsStorableKey width) keys → IfSome (find test keys) (IsStorableKey width)
+pub found_key : (width : ℕ) (test : KeyDef → Bool) (keys : List KeyDef) → All (IsStorableKey width) keys → IfSome (find test keys) (IsStorableKey width)
 found_key width test [] so = tt
 found_key width test (key ∷ keys) so = by (test key) (found_key width test keys (All-tail (IsStorableKey width) key keys so))
   where
@@ -118,11 +118,11 @@ found_key width test (key ∷ keys) so = by (test key) (found_key width test key
     by true later = All-head (IsStorableKey width) key keys so
     by false later = later
 
-either_key : (width : ℕ) (a b : Option KeyDef) → IfSome a (IsStorableKey width) → IfSome b (IsStorableKey width) → IfSome (option_or a b) (IsStorableKey width)
+pub either_key : (width : ℕ) (a b : Option KeyDef) → IfSome a (IsStorableKey width) → IfSome b (IsStorableKey width) → IfSome (option_or a b) (IsStorableKey width)
 either_key width (Some key) b of_a of_b = of_a
 either_key width None b of_a of_b = of_b
 
-key_positions : (width : ℕ) (o : Option KeyDef) → IfSome o (IsStorableKey width) → ArePositions width (option_map_or (λ (key : KeyDef). key.columns) o [])
+pub key_positions : (width : ℕ) (o : Option KeyDef) → IfSome o (IsStorableKey width) → ArePositions width (option_map_or (λ (key : KeyDef). key.columns) o [])
 key_positions width (Some key) so = so.columns.1
 key_positions width None so = (omega arith, All-nil (λ number. number < width))
 

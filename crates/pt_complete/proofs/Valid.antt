@@ -33,34 +33,34 @@ use Rattle.pt_complete.proofs.ValidKinds.{main_valid, sub_valid}
 use Rattle.pt_complete.proofs.ValidValues.{counted_none, values_valid}
 use Rattle.pt_complete.proofs.ValidCounts.{all_alike, few_leaves, parts_once, with_parts}
 
-and_true : (b : Bool) → (b && true) ≡ false → b ≡ false
+pub and_true : (b : Bool) → (b && true) ≡ false → b ≡ false
 and_true true e = e
 and_true false e = refl
 
 -- an unpartitioned table uses no column that a key could lack
-none_lacking : (columns : List Column) (keys : List KeyDef)
+pub none_lacking : (columns : List Column) (keys : List KeyDef)
     → first_in (λ (key : KeyDef). refused_if (not (list_all (has_column key) (columns_used columns by.Whole ++ columns_used columns by.Whole))) (refusal.KeyNeedsColumns (key_arg key))) keys ≡ None
 none_lacking columns [] = refl
 none_lacking columns (key ∷ keys) = none_lacking columns keys
 
 -- ---- checks in a row
 
-none_two : (a b : Option Refusal) → a ≡ None → b ≡ None → first_of (a ∷ b ∷ []) ≡ None
+pub none_two : (a b : Option Refusal) → a ≡ None → b ≡ None → first_of (a ∷ b ∷ []) ≡ None
 none_two a b is_a is_b = both_none a (option_or b None) is_a (both_none b None is_b refl)
 
-none_three : (a b c : Option Refusal) → a ≡ None → b ≡ None → c ≡ None → first_of (a ∷ b ∷ c ∷ []) ≡ None
+pub none_three : (a b c : Option Refusal) → a ≡ None → b ≡ None → c ≡ None → first_of (a ∷ b ∷ c ∷ []) ≡ None
 none_three a b c is_a is_b is_c = both_none a (first_of (b ∷ c ∷ [])) is_a (none_two b c is_b is_c)
 
-none_six : (a b c d e f : Option Refusal) → a ≡ None → b ≡ None → c ≡ None → d ≡ None → e ≡ None → f ≡ None → first_of (a ∷ b ∷ c ∷ d ∷ e ∷ f ∷ []) ≡ None
+pub none_six : (a b c d e f : Option Refusal) → a ≡ None → b ≡ None → c ≡ None → d ≡ None → e ≡ None → f ≡ None → first_of (a ∷ b ∷ c ∷ d ∷ e ∷ f ∷ []) ≡ None
 none_six a b c d e f is_a is_b is_c is_d is_e is_f =
     both_none a (first_of (b ∷ c ∷ d ∷ e ∷ f ∷ [])) is_a (both_none b (first_of (c ∷ d ∷ e ∷ f ∷ [])) is_b (both_none c (first_of (d ∷ e ∷ f ∷ [])) is_c (none_three d e f is_d is_e is_f)))
 
-three_none : (a b c : Option Refusal) → first_of (a ∷ b ∷ c ∷ []) ≡ None → (a ≡ None) × (b ≡ None) × (c ≡ None)
+pub three_none : (a b c : Option Refusal) → first_of (a ∷ b ∷ c ∷ []) ≡ None → (a ≡ None) × (b ≡ None) × (c ≡ None)
 three_none a b c none =
     let from_b = none_next a (first_of (b ∷ c ∷ [])) none in
     (none_first a (first_of (b ∷ c ∷ [])) none, none_first b (first_of (c ∷ [])) from_b, none_first c None (none_next b (first_of (c ∷ [])) from_b))
 
-six_none : (a b c d e f : Option Refusal) → first_of (a ∷ b ∷ c ∷ d ∷ e ∷ f ∷ []) ≡ None → (a ≡ None) × (b ≡ None) × (c ≡ None) × (d ≡ None) × (e ≡ None) × (f ≡ None)
+pub six_none : (a b c d e f : Option Refusal) → first_of (a ∷ b ∷ c ∷ d ∷ e ∷ f ∷ []) ≡ None → (a ≡ None) × (b ≡ None) × (c ≡ None) × (d ≡ None) × (e ≡ None) × (f ≡ None)
 six_none a b c d e f none =
     let from_b = none_next a (first_of (b ∷ c ∷ d ∷ e ∷ f ∷ [])) none in
     let from_c = none_next b (first_of (c ∷ d ∷ e ∷ f ∷ [])) from_b in
@@ -75,7 +75,7 @@ six_none a b c d e f none =
       none_first f None from_f,
     )
 
-or_chain : (a b c d e f g : Option Refusal) → first_of (a ∷ b ∷ c ∷ d ∷ e ∷ f ∷ g ∷ []) ≡ None → option_or (first_of (a ∷ b ∷ c ∷ d ∷ e ∷ f ∷ [])) g ≡ None
+pub or_chain : (a b c d e f g : Option Refusal) → first_of (a ∷ b ∷ c ∷ d ∷ e ∷ f ∷ g ∷ []) ≡ None → option_or (first_of (a ∷ b ∷ c ∷ d ∷ e ∷ f ∷ [])) g ≡ None
 or_chain (Some r) b c d e f g none = none
 or_chain None (Some r) c d e f g none = none
 or_chain None None (Some r) d e f g none = none
@@ -85,7 +85,7 @@ or_chain None None None None None (Some r) g none = none
 or_chain None None None None None None (Some r) none = none
 or_chain None None None None None None None none = none
 
-needs_none : (spec : PartSpec) → is_without_written spec ≡ false → (needs_parts spec.main && is_none spec.parts) ≡ false
+pub needs_none : (spec : PartSpec) → is_without_written spec ≡ false → (needs_parts spec.main && is_none spec.parts) ≡ false
 needs_none spec e = (or_parts _ _ (or_parts _ _ e).0).1
 
 module _ (table : List ℕ) (columns : List Column) (keys : List KeyDef) (columned : in_turn (bad_column keys) columns ≡ None) (keyed : in_turn (bad_key columns) keys ≡ None) where
@@ -142,7 +142,7 @@ module _ (table : List ℕ) (columns : List Column) (keys : List KeyDef) (column
         all.4
         (parts_once made all.5))
 
-  spec_valid : (spec : PartSpec) → IsStorablePartSpec spec → bad_spec table columns keys spec ≡ None → refusal_of table (partitioned columns keys (Some spec)) ≡ None
+  pub spec_valid : (spec : PartSpec) → IsStorablePartSpec spec → bad_spec table columns keys spec ≡ None → refusal_of table (partitioned columns keys (Some spec)) ≡ None
   unfolding bad_spec items
   spec_valid spec so none =
       let kind = by_of columns keys spec.main in
@@ -165,7 +165,7 @@ module _ (table : List ℕ) (columns : List Column) (keys : List KeyDef) (column
       (kinds_valid spec kind sub refl refl so (none_first kinds (bad_parts table columns kind spec) whole))
       (parts_valid spec kind sub refl refl so parts refl (none_next kinds (bad_parts table columns kind spec) whole))
 
-  whole_valid : (own : Option PartSpec) → IfSome own IsStorablePartSpec → bad_spec_if table columns keys own ≡ None → refusal_of table (partitioned columns keys own) ≡ None
+  pub whole_valid : (own : Option PartSpec) → IfSome own IsStorablePartSpec → bad_spec_if table columns keys own ≡ None → refusal_of table (partitioned columns keys own) ≡ None
   unfolding items
   whole_valid None so none =
       none_three items (option_or (lacking_key columns keys by.Whole by.Whole) None) None items_none

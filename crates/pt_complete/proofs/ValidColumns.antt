@@ -35,14 +35,14 @@ use Rattle.pt_complete.specs.Making.{column_as}
 
 -- ---- defaults: NULL is no default
 
-default_out : (k : Kind) (o : Option Value) → is_default_out k o ≡ false → is_default_out k (but_null o) ≡ false
+pub default_out : (k : Kind) (o : Option Value) → is_default_out k o ≡ false → is_default_out k (but_null o) ≡ false
 default_out k None e = e
 default_out k (Some value.Null) e = refl
 default_out k (Some (value.Int n)) e = e
 default_out k (Some (value.Day day)) e = e
 default_out k (Some (value.Bytes bytes)) e = e
 
-default_wrong : (k : Kind) (not_null : Bool) (o : Option Value) → is_default_wrong k not_null o ≡ false → is_default_wrong k not_null (but_null o) ≡ false
+pub default_wrong : (k : Kind) (not_null : Bool) (o : Option Value) → is_default_wrong k not_null o ≡ false → is_default_wrong k not_null (but_null o) ≡ false
 default_wrong k not_null None e = e
 default_wrong k not_null (Some value.Null) e = refl
 default_wrong k not_null (Some (value.Int n)) e = e
@@ -62,20 +62,20 @@ keys_listed columns before (key ∷ keys) none =
 
 -- ---- primary keys have columns that are NOT NULL
 
-abbrev is_full : List Column → List ℕ → Bool
+abbrev pub is_full : List Column → List ℕ → Bool
 is_full columns name = option_map_or (λ (column : Column). column.not_null) (column_named name columns) false
 
-abbrev AreFull : List Column → List (List ℕ) → Type 0
+abbrev pub AreFull : List Column → List (List ℕ) → Type 0
 AreFull columns names = Each (λ name. is_full columns name ≡ true) names
 
-abbrev IsFullText : List Column → KeyText → Type 0
+abbrev pub IsFullText : List Column → KeyText → Type 0
 IsFullText columns key = is_primary_rank key.rank ≡ true → AreFull columns key.columns
 
 -- all names of the one list are in the other
-abbrev AreIn : List (List ℕ) → List (List ℕ) → Type 0
+abbrev pub AreIn : List (List ℕ) → List (List ℕ) → Type 0
 AreIn names all = (name : List ℕ) → is_among name names ≡ true → is_among name all ≡ true
 
-among_append : (name : List ℕ) (xs ys : List (List ℕ)) → is_among name (xs ++ ys) ≡ (is_among name xs || is_among name ys)
+pub among_append : (name : List ℕ) (xs ys : List (List ℕ)) → is_among name (xs ++ ys) ≡ (is_among name xs || is_among name ys)
 among_append name [] ys = refl
 among_append name (x ∷ xs) ys = ap (λ t. str_eq_ignore_ascii_case name x || t) (among_append name xs ys) ∙ sym (or_thrice (str_eq_ignore_ascii_case name x) (is_among name xs) (is_among name ys))
   where
@@ -83,22 +83,22 @@ among_append name (x ∷ xs) ys = ap (λ t. str_eq_ignore_ascii_case name x || t
     or_thrice true b c = refl
     or_thrice false b c = refl
 
-in_left : (xs ys all : List (List ℕ)) → AreIn (xs ++ ys) all → AreIn xs all
+pub in_left : (xs ys all : List (List ℕ)) → AreIn (xs ++ ys) all → AreIn xs all
 in_left xs ys all so name e = so name (among_append name xs ys ∙ or_left (is_among name xs) (is_among name ys) e)
 
-in_right : (xs ys all : List (List ℕ)) → AreIn (xs ++ ys) all → AreIn ys all
+pub in_right : (xs ys all : List (List ℕ)) → AreIn (xs ++ ys) all → AreIn ys all
 in_right xs ys all so name e = so name (among_append name xs ys ∙ or_right (is_among name xs) (is_among name ys) e)
 
 -- columns of these names are NOT NULL
-abbrev AreMarked : List (List ℕ) → List Column → Type 0
+abbrev pub AreMarked : List (List ℕ) → List Column → Type 0
 AreMarked primary columns = Each (λ (column : Column). is_among column.name primary ≡ true → column.not_null ≡ true) columns
 
-marked : (primary : List (List ℕ)) (items : List Item) → AreMarked primary (filter_map (column_in primary) items)
+pub marked : (primary : List (List ℕ)) (items : List Item) → AreMarked primary (filter_map (column_in primary) items)
 marked primary [] = tt
 marked primary (text.Column name written options ∷ items) = (λ e. or_right (says_not_null options || list_any is_primary_option options) (is_among name primary) e, marked primary items)
 marked primary (text.Key rank name columns ∷ items) = marked primary items
 
-full_named : (primary : List (List ℕ)) (name : List ℕ) (columns : List Column) → AreMarked primary columns → ((a : List ℕ) → str_eq_ignore_ascii_case a name ≡ true → is_among a primary ≡ true)
+pub full_named : (primary : List (List ℕ)) (name : List ℕ) (columns : List Column) → AreMarked primary columns → ((a : List ℕ) → str_eq_ignore_ascii_case a name ≡ true → is_among a primary ≡ true)
     → position_or_len (is_named name) columns < length columns → is_full columns name ≡ true
 full_named primary name [] so is within = absurd (omega (arith, within))
 full_named primary name (column ∷ columns) so is within = by_test (is_named name column) refl within (full_named primary name columns so.1 is)
@@ -109,7 +109,7 @@ full_named primary name (column ∷ columns) so is within = by_test (is_named na
     by_test true named in' rest = so.0 (is column.name named)
     by_test false named in' rest = rest (omega (arith, in'))
 
-full_list : (primary : List (List ℕ)) (columns : List Column) (names : List (List ℕ)) → AreMarked primary columns → AreIn names primary → first_in (no_column columns) names ≡ None → AreFull columns names
+pub full_list : (primary : List (List ℕ)) (columns : List Column) (names : List (List ℕ)) → AreMarked primary columns → AreIn names primary → first_in (no_column columns) names ≡ None → AreFull columns names
 full_list primary columns [] so is none = tt
 full_list primary columns (name ∷ names) so is none = (
   full_named primary name columns so (λ a e. is a (or_left (str_eq_ignore_ascii_case a name) (is_among a names) e)) (place_within columns name (none_first _ _ none)),
@@ -117,16 +117,16 @@ full_list primary columns (name ∷ names) so is none = (
 )
 
 -- a column behind others of other names is the first of its name
-turned : (a b : List ℕ) → str_eq_ignore_ascii_case a b ≡ false → str_eq_ignore_ascii_case b a ≡ false
+pub turned : (a b : List ℕ) → str_eq_ignore_ascii_case a b ≡ false → str_eq_ignore_ascii_case b a ≡ false
 turned a b e = false_from_ne_true _ (λ is. true≢false (sym (lower_alike a b (sym (alike_lower b a is))) ∙ e))
 
-behind_others : (name : List ℕ) (before after : List Column) → is_among name (names_of before) ≡ false → column_named name (before ++ after) ≡ column_named name after
+pub behind_others : (name : List ℕ) (before after : List Column) → is_among name (names_of before) ≡ false → column_named name (before ++ after) ≡ column_named name after
 behind_others name [] after none = refl
 behind_others name (column ∷ before) after none =
     let both = or_parts (str_eq_ignore_ascii_case name column.name) (is_among name (names_of before)) none in
     ap (λ t. cond t (Some column) (column_named name (before ++ after))) (turned name column.name both.0) ∙ behind_others name before after both.1
 
-own_full : (primary : List (List ℕ)) (name : List ℕ) (written : KindSpec) (options : List ColOption) (columns before after : List Column)
+pub own_full : (primary : List (List ℕ)) (name : List ℕ) (written : KindSpec) (options : List ColOption) (columns before after : List Column)
     → columns ≡ before ++ column_as primary name written options ∷ after → is_among name (names_of before) ≡ false → list_any is_primary_option options ≡ true → is_full columns name ≡ true
 own_full primary name written options columns before after is none own =
     ap (λ l. is_full l name) is
@@ -135,7 +135,7 @@ own_full primary name written options columns before after is none own =
     ∙ ap (λ t. cond t (Some (column_as primary name written options)) (column_named name after)) (lower_alike name name refl))
     ∙ or_left (says_not_null options || list_any is_primary_option options) (is_among name primary) (or_right (says_not_null options) (list_any is_primary_option options) own)
 
-own_texts : (columns : List Column) (name : List ℕ) (options : List ColOption) → (list_any is_primary_option options ≡ true → is_full columns name ≡ true) → Each (IsFullText columns) (filter_map (key_option name) options)
+pub own_texts : (columns : List Column) (name : List ℕ) (options : List ColOption) → (list_any is_primary_option options ≡ true → is_full columns name ≡ true) → Each (IsFullText columns) (filter_map (key_option name) options)
 own_texts columns name [] full = tt
 own_texts columns name (option.NotNull ∷ options) full = own_texts columns name options full
 own_texts columns name (option.Null ∷ options) full = own_texts columns name options full
@@ -143,7 +143,7 @@ own_texts columns name (option.Default literal ∷ options) full = own_texts col
 own_texts columns name (option.Primary ∷ options) full = (λ e. (full refl, tt), own_texts columns name options (λ e. full refl))
 own_texts columns name (option.Unique ∷ options) full = (λ e. absurd (true≢false (sym e)), own_texts columns name options full)
 
-key_text_full : (primary : List (List ℕ)) (columns : List Column) (r : Rank) (name : Option (List ℕ)) (names : List (List ℕ)) → AreMarked primary columns
+pub key_text_full : (primary : List (List ℕ)) (columns : List Column) (r : Rank) (name : Option (List ℕ)) (names : List (List ℕ)) → AreMarked primary columns
     → AreIn (primary_names_in (text.Key r name names)) primary → first_in (no_column columns) names ≡ None → is_primary_rank r ≡ true → AreFull columns names
 key_text_full primary columns rank.Primary name names so is none e = full_list primary columns names so is none
 key_text_full primary columns rank.Unique name names so is none e = absurd (true≢false (sym e))

@@ -35,22 +35,22 @@ abbrev pub each_has : Option SubSpec → ℕ → ℕ
 each_has None count = 0
 each_has (Some sub) count = count
 
-second_true : (a b : Bool) → (not a && not b) ≡ false → a ≡ false → b ≡ true
+pub second_true : (a b : Bool) → (not a && not b) ≡ false → a ≡ false → b ≡ true
 second_true true b e is = absurd (true≢false is)
 second_true false true e is = refl
 second_true false false e is = absurd (true≢false e)
 
-zero_not : (n : ℕ) → 1 ≤ n → (n == 0) ≡ false
+pub zero_not : (n : ℕ) → 1 ≤ n → (n == 0) ≡ false
 zero_not n some = ne_eqb n 0 (λ is. omega (arith, some, is))
 
-has_each : (sub : SubSpec) (first count n : ℕ) → is_other_subs (Some sub) first count n ≡ false → 1 ≤ n → n ≡ count
+pub has_each : (sub : SubSpec) (first count n : ℕ) → is_other_subs (Some sub) first count n ≡ false → 1 ≤ n → n ≡ count
 has_each sub first count n e some = eqb-true n count (second_true (n == 0) (n == count) (or_parts _ _ e).1 (zero_not n some))
 
-made_each : (sub : Option SubSpec) (count : ℕ) (name : List ℕ) → length (subs_named sub count name None) ≡ each_has sub count
+pub made_each : (sub : Option SubSpec) (count : ℕ) (name : List ℕ) → length (subs_named sub count name None) ≡ each_has sub count
 made_each None count name = refl
 made_each (Some sub) count name = length-map (range_with_len 0 count) (λ i. name ++ codes "sp" ++ decimal i) ∙ length-range_with_len 0 count
 
-named_each : (sub : Option SubSpec) (first count : ℕ) (name : List ℕ) (written : Option (List (List ℕ))) → IfSome written (HasAtLeast 1)
+pub named_each : (sub : Option SubSpec) (first count : ℕ) (name : List ℕ) (written : Option (List (List ℕ))) → IfSome written (HasAtLeast 1)
     → is_other_subs sub first count (option_map_or (λ (names : List (List ℕ)). length names) written 0) ≡ false → length (subs_named sub count name written) ≡ each_has sub count
 named_each None first count name written some e = refl
 named_each (Some sub) first count name None some e = made_each (Some sub) count name
@@ -88,11 +88,11 @@ module _ (kinds : List Kind) (kind : PartBy) (spec : PartSpec) where
 
 -- ---- what follows for the partitions
 
-first_has : (n : ℕ) (parts : List PartDef) → AllHave n parts → 0 < length parts → first_subs parts ≡ n
+pub first_has : (n : ℕ) (parts : List PartDef) → AllHave n parts → 0 < length parts → first_subs parts ≡ n
 first_has n [] has some = absurd (omega (arith, some))
 first_has n (part ∷ parts) has some = has.0
 
-others_in : (n : ℕ) (all parts : List PartDef) → first_subs all ≡ n → AllHave n parts → first_in (other_subs all) parts ≡ None
+pub others_in : (n : ℕ) (all parts : List PartDef) → first_subs all ≡ n → AllHave n parts → first_in (other_subs all) parts ≡ None
 others_in n all [] is has = refl
 others_in n all (part ∷ parts) is has =
     both_none _ _ (not_refused _ (refusal.SubpartitionsDiffer part.name) (same (length part.subs) (first_subs all) (has.0 ∙ sym is))) (others_in n all parts is has.1)
@@ -100,11 +100,11 @@ others_in n all (part ∷ parts) is has =
     same : (a b : ℕ) → a ≡ b → not (a == b) ≡ false
     same a b e = ap not (eq-eqb a b e)
 
-no_others : (n : ℕ) (parts : List PartDef) → AllHave n parts → first_in (other_subs parts) parts ≡ None
+pub no_others : (n : ℕ) (parts : List PartDef) → AllHave n parts → first_in (other_subs parts) parts ≡ None
 no_others n [] has = refl
 no_others n (part ∷ parts) has = others_in n (part ∷ parts) (part ∷ parts) has.0 has
 
-hash_whole : (columns : List Column) (instead : List ℕ) (own : HashSpec) → is_whole (by_hash columns instead own) ≡ false
+pub hash_whole : (columns : List Column) (instead : List ℕ) (own : HashSpec) → is_whole (by_hash columns instead own) ≡ false
 hash_whole columns instead (hash.Hash linear expr) = refl
 hash_whole columns instead (hash.Key linear []) = refl
 hash_whole columns instead (hash.Key linear (name ∷ names)) = refl
@@ -113,29 +113,29 @@ pub sub_whole : (columns : List Column) (sub : Option SubSpec) → is_whole (sub
 sub_whole columns None = refl
 sub_whole columns (Some sub) = hash_whole columns [] sub.hash
 
-not_zero : (n : ℕ) → (n == 0) ≡ false → 0 < n
+pub not_zero : (n : ℕ) → (n == 0) ≡ false → 0 < n
 not_zero zero e = cc
 not_zero (suc n) e = omega arith
 
-few_told : (n : ℕ) → nat_lt 8192 (told n) ≡ false → n ≤ 8192
+pub few_told : (n : ℕ) → nat_lt 8192 (told n) ≡ false → n ≤ 8192
 few_told n e = grind (arith, e)
 
-told_few : (n : ℕ) → n ≤ 8192 → nat_lt 8192 (told n) ≡ false
+pub told_few : (n : ℕ) → n ≤ 8192 → nat_lt 8192 (told n) ≡ false
 told_few n few = grind (arith, few)
 
-and_none : (b : Bool) → (b && false) ≡ false
+pub and_none : (b : Bool) → (b && false) ≡ false
 and_none true = refl
 and_none false = refl
 
-left_least : (p s : ℕ) → 0 < s → p ≤ p * s
+pub left_least : (p s : ℕ) → 0 < s → p ≤ p * s
 left_least zero s some = omega arith
 left_least (suc p) s some = omega (arith, some, left_least p s some)
 
-leaves : (sub : Option SubSpec) (p s first : ℕ) → 0 < s → first ≡ each_has sub s → p * s ≤ 8192 → p * (if is_none sub then 1 else first) ≤ 8192
+pub leaves : (sub : Option SubSpec) (p s first : ℕ) → 0 < s → first ≡ each_has sub s → p * s ≤ 8192 → p * (if is_none sub then 1 else first) ≤ 8192
 leaves None p s first some is few = let least : p ≤ p * s = left_least p s some in omega (arith, least, few)
 leaves (Some sub) p s first some is few = rw is few
 
-some_subs : (sub : Option SubSpec) (s first : ℕ) → 0 < s → first ≡ each_has sub s → (not (is_none sub) && first == 0) ≡ false
+pub some_subs : (sub : Option SubSpec) (s first : ℕ) → 0 < s → first ≡ each_has sub s → (not (is_none sub) && first == 0) ≡ false
 some_subs None s first some is = refl
 some_subs (Some sub) s first some is = ap (λ n. n == 0) is ∙ zero_not s (omega (arith, some))
 
@@ -177,7 +177,7 @@ module _ (table : List ℕ) (columns : List Column) (kinds : List Kind) (kind : 
 
 -- ---- names
 
-names_once : (before xs : List Named) → in_turn_from bad_name before xs ≡ None → in_turn_from name_twice (map second before) (map second xs) ≡ None
+pub names_once : (before xs : List Named) → in_turn_from bad_name before xs ≡ None → in_turn_from name_twice (map second before) (map second xs) ≡ None
 names_once before [] none = refl
 names_once before (x ∷ xs) none =
     both_none _ _ (none_first _ _ (none_next _ _ (none_first _ _ none)))

@@ -15,11 +15,11 @@ use Rattle.pt_written.specs.Complete.{bad_written_key}
 use Rattle.pt_written.specs.Written.{KeyText, columns_for_rows, is_full_unique, key_of}
 use Rattle.pt_complete.proofs.ValidNames.{Each, both_none, places_once}
 
-ranks_same : (columns : List Column) (keys : List KeyText) → map (λ (key : KeyText). key.rank) keys ≡ map (λ (key : KeyDef). key.rank) (map (key_of columns) keys)
+pub ranks_same : (columns : List Column) (keys : List KeyText) → map (λ (key : KeyText). key.rank) keys ≡ map (λ (key : KeyDef). key.rank) (map (key_of columns) keys)
 ranks_same columns [] = refl
 ranks_same columns (key ∷ keys) = ap (λ l. key.rank ∷ l) (ranks_same columns keys)
 
-keys_pass : (columns : List Column) (before keys : List KeyText) → in_turn_from (bad_written_key columns) before keys ≡ None
+pub keys_pass : (columns : List Column) (before keys : List KeyText) → in_turn_from (bad_written_key columns) before keys ≡ None
     → in_turn_from (bad_key columns) (map (key_of columns) before) (map (key_of columns) keys) ≡ None
 keys_pass columns before [] none = refl
 keys_pass columns before (key ∷ keys) none =
@@ -35,14 +35,14 @@ keys_valid columns keys none = keys_pass columns [] keys none
 
 -- ---- the columns that KEY takes where it names none
 
-abbrev IsOnce : List Column → KeyDef → Type 0
+abbrev pub IsOnce : List Column → KeyDef → Type 0
 IsOnce columns key = in_turn twice (names_at columns key.columns) ≡ None
 
-each_once : (columns : List Column) (before keys : List KeyDef) → in_turn_from (bad_key columns) before keys ≡ None → Each (IsOnce columns) keys
+pub each_once : (columns : List Column) (before keys : List KeyDef) → in_turn_from (bad_key columns) before keys ≡ None → Each (IsOnce columns) keys
 each_once columns before [] none = tt
 each_once columns before (key ∷ keys) none = (none_first _ _ (none_first _ _ none), each_once columns (before ++ key ∷ []) keys (none_next _ _ none))
 
-found_once : (columns : List Column) (test : KeyDef → Bool) (keys : List KeyDef) → Each (IsOnce columns) keys → IfSome (find test keys) (IsOnce columns)
+pub found_once : (columns : List Column) (test : KeyDef → Bool) (keys : List KeyDef) → Each (IsOnce columns) keys → IfSome (find test keys) (IsOnce columns)
 found_once columns test [] once = tt
 found_once columns test (key ∷ keys) once = by_test (test key) (found_once columns test keys once.1)
   where
@@ -50,7 +50,7 @@ found_once columns test (key ∷ keys) once = by_test (test key) (found_once col
     by_test true rest = once.0
     by_test false rest = rest
 
-either_once : (columns : List Column) (a b : Option KeyDef) → IfSome a (IsOnce columns) → IfSome b (IsOnce columns) → in_turn twice (names_at columns (option_map_or (λ (key : KeyDef). key.columns) (option_or a b) [])) ≡ None
+pub either_once : (columns : List Column) (a b : Option KeyDef) → IfSome a (IsOnce columns) → IfSome b (IsOnce columns) → in_turn twice (names_at columns (option_map_or (λ (key : KeyDef). key.columns) (option_or a b) [])) ≡ None
 either_once columns (Some key) b once more = once
 either_once columns None (Some key) once more = more
 either_once columns None None once more = refl

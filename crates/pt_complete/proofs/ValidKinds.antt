@@ -27,7 +27,7 @@ use Rattle.pt_complete.proofs.ValidNames.{own_column, own_none, places_once}
 
 -- ---- lists of columns
 
-list_once : (columns : List Column) (names : List (List ℕ)) → bad_list columns names ≡ None → in_turn twice (names_at columns (places_of columns names)) ≡ None
+pub list_once : (columns : List Column) (names : List (List ℕ)) → bad_list columns names ≡ None → in_turn twice (names_at columns (places_of columns names)) ≡ None
 list_once columns names none = places_once columns names (none_first _ _ none) (none_first _ _ (none_next _ _ none))
 
 -- ---- what an expression is found to be

@@ -60,7 +60,7 @@ each_right P (x ∷ xs) ys all = each_right P xs ys all.1
 
 -- ---- a list of names beside another of the same names
 
-among_same : (a b : List ℕ) (xs ys : List (List ℕ)) → lower a ≡ lower b → map lower xs ≡ map lower ys → is_among a xs ≡ is_among b ys
+pub among_same : (a b : List ℕ) (xs ys : List (List ℕ)) → lower a ≡ lower b → map lower xs ≡ map lower ys → is_among a xs ≡ is_among b ys
 among_same a b [] [] e same = refl
 among_same a b [] (y ∷ ys) e same = cc
 among_same a b (x ∷ xs) [] e same = cc
@@ -70,7 +70,7 @@ among_same a b (x ∷ xs) (y ∷ ys) e same =
     ap (λ l. bytes_eq l (lower x) || is_among a xs) e ∙ ap (λ l. bytes_eq (lower b) l || is_among a xs) head
     ∙ ap (λ t. str_eq_ignore_ascii_case b y || t) (among_same a b xs ys e tail)
 
-added : (x y : List ℕ) (bx by : List (List ℕ)) → lower x ≡ lower y → map lower bx ≡ map lower by → map lower (bx ++ x ∷ []) ≡ map lower (by ++ y ∷ [])
+pub added : (x y : List ℕ) (bx by : List (List ℕ)) → lower x ≡ lower y → map lower bx ≡ map lower by → map lower (bx ++ x ∷ []) ≡ map lower (by ++ y ∷ [])
 added x y bx by e same = map-append lower bx (x ∷ []) ∙ ap (λ l. l ++ lower x ∷ []) same ∙ ap (λ n. map lower by ++ n ∷ []) e ∙ sym (map-append lower by (y ∷ []))
 
 pub turns_same : (bx by xs ys : List (List ℕ)) → map lower bx ≡ map lower by → map lower xs ≡ map lower ys → in_turn_from twice bx xs ≡ None → in_turn_from twice by ys ≡ None
@@ -86,7 +86,7 @@ turns_same bx by (x ∷ xs) (y ∷ ys) before same none =
 
 -- ---- a column by a name, and by its own
 
-named_same : (a b : List ℕ) (columns : List Column) → lower a ≡ lower b → column_named a columns ≡ column_named b columns
+pub named_same : (a b : List ℕ) (columns : List Column) → lower a ≡ lower b → column_named a columns ≡ column_named b columns
 named_same a b [] e = refl
 named_same a b (column ∷ columns) e =
     ap (λ l. cond (bytes_eq (lower column.name) l) (Some column) (column_named a columns)) e
@@ -109,7 +109,7 @@ own_none name columns e = ap (λ (o : Option Column). option_map_or (λ (c : Col
 
 -- ---- a column by its place
 
-one_more : (n : ℕ) → 1 + n ≡ suc n
+pub one_more : (n : ℕ) → 1 + n ≡ suc n
 one_more n = omega arith
 
 -- what the column of a name is, read by its place
@@ -123,7 +123,7 @@ read_at {A} f d name (column ∷ columns) = by_test (is_named name column) (read
     by_test true rest = refl
     by_test false rest = ap (λ n. slice_index_or (f column ∷ map f columns) n d) (one_more (position_or_len (is_named name) columns)) ∙ rest
 
-there : (n len : ℕ) → is_none (cond (nat_lt n len) (Some n) None) ≡ false → n < len
+pub there : (n len : ℕ) → is_none (cond (nat_lt n len) (Some n) None) ≡ false → n < len
 there n len e = by (nat_lt n len) refl
   where
     by : (b : Bool) → nat_lt n len ≡ b → n < len
@@ -133,7 +133,7 @@ there n len e = by (nat_lt n len) refl
 pub place_within : (columns : List Column) (name : List ℕ) → no_column columns name ≡ None → position_or_len (is_named name) columns < length columns
 place_within columns name none = there _ _ (passes _ _ none)
 
-found_lower : (name : List ℕ) (columns : List Column) → position_or_len (is_named name) columns < length columns → lower (name_at columns (position_or_len (is_named name) columns)) ≡ lower name
+pub found_lower : (name : List ℕ) (columns : List Column) → position_or_len (is_named name) columns < length columns → lower (name_at columns (position_or_len (is_named name) columns)) ≡ lower name
 found_lower name [] within = absurd (omega (arith, within))
 found_lower name (column ∷ columns) within = by_test (is_named name column) refl within (found_lower name columns)
   where
@@ -144,7 +144,7 @@ found_lower name (column ∷ columns) within = by_test (is_named name column) re
     by_test false is in' rest =
         ap (λ n. lower (slice_index_or (names_of (column ∷ columns)) n [])) (one_more (position_or_len (is_named name) columns)) ∙ rest (omega (arith, in'))
 
-places_lower : (columns : List Column) (names : List (List ℕ)) → first_in (no_column columns) names ≡ None → map lower names ≡ map lower (names_at columns (places_of columns names))
+pub places_lower : (columns : List Column) (names : List (List ℕ)) → first_in (no_column columns) names ≡ None → map lower names ≡ map lower (names_at columns (places_of columns names))
 places_lower columns [] none = refl
 places_lower columns (name ∷ names) none =
     ap (λ l. l ∷ map lower names) (sym (found_lower name columns (place_within columns name (none_first _ _ none))))

@@ -56,43 +56,43 @@ use Rattle.pt_complete.proofs.ValidNames.{both_none, not_refused}
 
 -- ---- the value of a constant expression is of the kind that it is found to be
 
-abbrev IsOfKind : ExprKind → Value → Type 0
+abbrev pub IsOfKind : ExprKind → Value → Type 0
 IsOfKind kind value.Null = Unit {0}
 IsOfKind expr.Wide (value.Int n) = Unit {0}
 IsOfKind expr.Day (value.Day day) = Unit {0}
 IsOfKind expr.Bytes (value.Bytes bytes) = Unit {0}
 IsOfKind kind other = ⊥
 
-abbrev IsNumber : Value → Type 0
+abbrev pub IsNumber : Value → Type 0
 IsNumber value.Null = Unit {0}
 IsNumber (value.Int n) = Unit {0}
 IsNumber _ = ⊥
 
-abbrev IsDate : Value → Type 0
+abbrev pub IsDate : Value → Type 0
 IsDate value.Null = Unit {0}
 IsDate (value.Day day) = Unit {0}
 IsDate _ = ⊥
 
 -- a value stands for another: both are numbers, or days, and either may be NULL where the first is not
-abbrev IsLike : Value → Value → Type 0
+abbrev pub IsLike : Value → Value → Type 0
 IsLike value.Null v = IsNull v
 IsLike (value.Int n) v = IsNumber v
 IsLike (value.Day day) v = IsDate v
 IsLike (value.Bytes bytes) v = v ≡ value.Bytes bytes
 
-like_self : (v : Value) → IsLike v v
+pub like_self : (v : Value) → IsLike v v
 like_self value.Null = tt
 like_self (value.Int n) = tt
 like_self (value.Day day) = tt
 like_self (value.Bytes bytes) = refl
 
-on_number_is : (f : ℤ → ℤ) (v : Value) → IsNumber (on_number f v)
+pub on_number_is : (f : ℤ → ℤ) (v : Value) → IsNumber (on_number f v)
 on_number_is f value.Null = tt
 on_number_is f (value.Int n) = tt
 on_number_is f (value.Day day) = tt
 on_number_is f (value.Bytes bytes) = tt
 
-on_numbers_is : (f : ℤ → ℤ → ℤ) (v w : Value) → IsNumber (on_numbers f v w)
+pub on_numbers_is : (f : ℤ → ℤ → ℤ) (v w : Value) → IsNumber (on_numbers f v w)
 on_numbers_is f value.Null w = tt
 on_numbers_is f (value.Int n) value.Null = tt
 on_numbers_is f (value.Int n) (value.Int m) = tt
@@ -101,21 +101,21 @@ on_numbers_is f (value.Int n) (value.Bytes bytes) = tt
 on_numbers_is f (value.Day day) w = tt
 on_numbers_is f (value.Bytes bytes) w = tt
 
-on_day_is : (f : ℤ → ℤ) (v : Value) → IsNumber (on_day f v)
+pub on_day_is : (f : ℤ → ℤ) (v : Value) → IsNumber (on_day f v)
 on_day_is f value.Null = tt
 on_day_is f (value.Int n) = tt
 on_day_is f (value.Day day) = tt
 on_day_is f (value.Bytes bytes) = tt
 
-sum_is : (v : Value) (parts : List (Bool × Value)) → IsNumber v → IsNumber (fold plus v parts)
+pub sum_is : (v : Value) (parts : List (Bool × Value)) → IsNumber v → IsNumber (fold plus v parts)
 sum_is v [] so = so
 sum_is v (part ∷ parts) so = sum_is (plus v part) parts (on_numbers_is _ v part.1)
 
-product_is : (v : Value) (parts : List (Op × Value)) → IsNumber v → IsNumber (fold times v parts)
+pub product_is : (v : Value) (parts : List (Op × Value)) → IsNumber v → IsNumber (fold times v parts)
 product_is v [] so = so
 product_is v (part ∷ parts) so = product_is (times v part) parts (on_numbers_is _ v part.1)
 
-like_number : (f : ℤ → ℤ) (w v : Value) → IsLike w v → IsLike (on_number f w) (on_number f v)
+pub like_number : (f : ℤ → ℤ) (w v : Value) → IsLike w v → IsLike (on_number f w) (on_number f v)
 like_number f value.Null value.Null like = tt
 like_number f value.Null (value.Int n) like = absurd like
 like_number f value.Null (value.Day day) like = absurd like
@@ -127,7 +127,7 @@ like_number f (value.Day own) (value.Day day) like = tt
 like_number f (value.Day own) (value.Bytes bytes) like = absurd like
 like_number f (value.Bytes own) v like = subst (λ (x : Value). IsNull (on_number f x)) (sym like) tt
 
-like_day : (f : ℤ → ℤ) (w v : Value) → IsLike w v → IsLike (on_day f (as_day w)) (on_day f (as_day v))
+pub like_day : (f : ℤ → ℤ) (w v : Value) → IsLike w v → IsLike (on_day f (as_day w)) (on_day f (as_day v))
 like_day f value.Null value.Null like = tt
 like_day f value.Null (value.Int n) like = absurd like
 like_day f value.Null (value.Day day) like = absurd like
@@ -139,7 +139,7 @@ like_day f (value.Int m) (value.Bytes bytes) like = absurd like
 like_day f (value.Day own) v like = on_day_is f (as_day v)
 like_day f (value.Bytes own) v like = subst (λ (x : Value). IsLike (on_day f (as_day (value.Bytes own))) (on_day f (as_day x))) (sym like) (like_self (on_day f (as_day (value.Bytes own))))
 
-like_call : (f : Func) (w v : Value) → IsLike w v → IsLike (call f w) (call f v)
+pub like_call : (f : Func) (w v : Value) → IsLike w v → IsLike (call f w) (call f v)
 like_call func.Abs w v like = like_number _ w v like
 like_call func.Year w v like = like_day (part_of_day func.Year) w v like
 like_call func.Month w v like = like_day (part_of_day func.Month) w v like
@@ -150,7 +150,7 @@ like_call func.Weekday w v like = like_day (part_of_day func.Weekday) w v like
 like_call func.Quarter w v like = like_day (part_of_day func.Quarter) w v like
 like_call func.ToDays w v like = like_day (part_of_day func.ToDays) w v like
 
-like_as_day : (w v : Value) → IsLike w v → IsLike (as_day w) (as_day v)
+pub like_as_day : (w v : Value) → IsLike w v → IsLike (as_day w) (as_day v)
 like_as_day value.Null value.Null like = tt
 like_as_day value.Null (value.Int n) like = absurd like
 like_as_day value.Null (value.Day day) like = absurd like
@@ -165,7 +165,7 @@ like_as_day (value.Day own) (value.Day day) like = tt
 like_as_day (value.Day own) (value.Bytes bytes) like = absurd like
 like_as_day (value.Bytes own) v like = subst (λ (x : Value). IsLike (as_day (value.Bytes own)) (as_day x)) (sym like) (like_self (as_day (value.Bytes own)))
 
-like_wanted : (date : Bool) (x : Expr-F Expr) (w v : Value) → IsLike w v → IsLike (wanted date x w) (wanted date x v)
+pub like_wanted : (date : Bool) (x : Expr-F Expr) (w v : Value) → IsLike w v → IsLike (wanted date x w) (wanted date x v)
 like_wanted false x w v like = like
 like_wanted true (Expr-F.Number n) w v like = like
 like_wanted true (Expr-F.Text bytes) w v like = like_as_day w v like
@@ -178,7 +178,7 @@ like_wanted true (Expr-F.Sum parts) w v like = like
 like_wanted true (Expr-F.Product first parts) w v like = like
 like_wanted true (Expr-F.Call f part) w v like = like
 
-like_within : (b : ℕ) (w v : Value) → IsWithin b w → IsLike w v → IsNumber v
+pub like_within : (b : ℕ) (w v : Value) → IsWithin b w → IsLike w v → IsNumber v
 like_within b value.Null value.Null within like = tt
 like_within b value.Null (value.Int n) within like = tt
 like_within b value.Null (value.Day day) within like = like
@@ -187,7 +187,7 @@ like_within b (value.Int m) v within like = like
 like_within b (value.Day own) v within like = absurd within
 like_within b (value.Bytes own) v within like = absurd within
 
-like_kind : (kind : ExprKind) (w v : Value) → IsLike w v → HasKind kind w → IsOfKind kind v
+pub like_kind : (kind : ExprKind) (w v : Value) → IsLike w v → HasKind kind w → IsOfKind kind v
 like_kind kind w value.Null like has = tt
 like_kind kind value.Null (value.Int n) like has = absurd like
 like_kind kind value.Null (value.Day day) like has = absurd like
@@ -212,82 +212,82 @@ like_kind expr.Day (value.Bytes own) (value.Bytes bytes) like has = absurd has
 like_kind expr.Bytes (value.Bytes own) (value.Bytes bytes) like has = tt
 
 -- where there is no fault, a value that the finding allows stands for this one
-abbrev Stands : Finding → Value → Type 0
+abbrev pub Stands : Finding → Value → Type 0
 Stands r v = IfOk r (λ found. (w : Value) × Agrees found w × IsLike w v)
 
-stands : (r : Finding) (w v : Value) → IfOk r (λ found. Agrees found w) → IsLike w v → Stands r v
+pub stands : (r : Finding) (w v : Value) → IfOk r (λ found. Agrees found w) → IsLike w v → Stands r v
 stands (Ok found) w v agrees like = (w, agrees, like)
 stands (Err fault) w v agrees like = tt
 
-neg_stands : (r : Finding) (v : Value) → Stands r v → Stands (after r negation) (on_number neg_ℤ v)
+pub neg_stands : (r : Finding) (v : Value) → Stands r v → Stands (after r negation) (on_number neg_ℤ v)
 neg_stands (Ok found) v so = stands (negation found) (on_number neg_ℤ so.0) (on_number neg_ℤ v) (negation_agrees found so.0 so.1) (like_number neg_ℤ so.0 v so.2)
 neg_stands (Err fault) v so = tt
 
-call_stands : (f : Func) (r : Finding) (v : Value) → Stands r v → Stands (after r (call_finding f)) (call f v)
+pub call_stands : (f : Func) (r : Finding) (v : Value) → Stands r v → Stands (after r (call_finding f)) (call f v)
 call_stands f (Ok found) v so = stands (call_finding f found) (call f so.0) (call f v) (call_agrees f found so.0 so.1) (like_call f so.0 v so.2)
 call_stands f (Err fault) v so = tt
 
 -- a bound below 2^126
-abbrev IsNarrow : Result ℕ CheckFault → Type 0
+abbrev pub IsNarrow : Result ℕ CheckFault → Type 0
 IsNarrow r = IfOk r (λ bound. bound < 2 ^ 126)
 
-narrowed : (n : ℕ) → IsNarrow (narrow n)
+pub narrowed : (n : ℕ) → IsNarrow (narrow n)
 narrowed n = by_test (nat_lt n (2 ^ 126)) refl
   where
     by_test : (t : Bool) → nat_lt n (2 ^ 126) ≡ t → IsNarrow (cond t (Ok n) (Err fault.TooWide))
     by_test true is = ltb-true n (2 ^ 126) is
     by_test false is = tt
 
-then_narrow : (r : Result ℕ CheckFault) (next : ℕ → Result ℕ CheckFault) → IsNarrow r → ((n : ℕ) → n < 2 ^ 126 → IsNarrow (next n)) → IsNarrow (after r next)
+pub then_narrow : (r : Result ℕ CheckFault) (next : ℕ → Result ℕ CheckFault) → IsNarrow r → ((n : ℕ) → n < 2 ^ 126 → IsNarrow (next n)) → IsNarrow (after r next)
 then_narrow (Ok n) next so more = more n so
 then_narrow (Err fault) next so more = tt
 
-bound_narrow : (n : ℕ) (parts : _) → n < 2 ^ 126 → IsNarrow (product_bound n parts)
+pub bound_narrow : (n : ℕ) (parts : _) → n < 2 ^ 126 → IsNarrow (product_bound n parts)
 bound_narrow n [] so = so
 bound_narrow n (part ∷ parts) so = then_narrow (narrow (bound_after n part.0 part.1.bound)) (λ next. product_bound next parts) (narrowed (bound_after n part.0 part.1.bound)) (λ next narrow. bound_narrow next parts narrow)
 
-wide_stands : (r : Result ℕ CheckFault) (v : Value) → IsNarrow r → IsNumber v → Stands (after r (λ bound. Ok (wide bound))) v
+pub wide_stands : (r : Result ℕ CheckFault) (v : Value) → IsNarrow r → IsNumber v → Stands (after r (λ bound. Ok (wide bound))) v
 wide_stands (Ok n) v narrow so = (value.Int (pos 0), record { by = omega arith; narrow = narrow }, so)
 wide_stands (Err fault) v narrow so = tt
 
-chosen_stands : (a b : Bool) (r : Result ℕ CheckFault) (v : Value) → IsNarrow r → (a ≡ true → IsNumber v) → Stands (cond (a && b) (after r (λ bound. Ok (wide bound))) (Err fault.Mismatch)) v
+pub chosen_stands : (a b : Bool) (r : Result ℕ CheckFault) (v : Value) → IsNarrow r → (a ≡ true → IsNumber v) → Stands (cond (a && b) (after r (λ bound. Ok (wide bound))) (Err fault.Mismatch)) v
 chosen_stands true true r v narrow so = wide_stands r v narrow (so refl)
 chosen_stands true false r v narrow so = tt
 chosen_stands false b r v narrow so = tt
 
-sum_stands : (r : _) (v : Value) → IsNumber v → Stands (after r sum_finding) v
+pub sum_stands : (r : _) (v : Value) → IsNumber v → Stands (after r sum_finding) v
 sum_stands (Ok parts) v so = chosen_stands true _ (narrow (sum_by (λ part. part.bound) parts)) v (narrowed (sum_by (λ part. part.bound) parts)) (λ e. so)
 sum_stands (Err fault) v so = tt
 
-product_stands : (first : Finding) (rest : _) (v : Value) (parts : List (Op × Value)) → Stands first v → Stands (after first (λ found. after rest (product_finding found))) (fold times v parts)
+pub product_stands : (first : Finding) (rest : _) (v : Value) (parts : List (Op × Value)) → Stands first v → Stands (after first (λ found. after rest (product_finding found))) (fold times v parts)
 product_stands (Err fault) rest v parts so = tt
 product_stands (Ok found) (Err fault) v parts so = tt
 product_stands (Ok found) (Ok others) v parts so =
     chosen_stands (may_be_wide found.shape) _ (product_bound found.bound others) (fold times v parts) (bound_narrow found.bound others so.1.narrow)
     (λ is. product_is v parts (like_within found.bound so.0 v (wide_within found.shape found.bound so.0 is so.1.by) so.2))
 
-found_of : Expr-F Expr → Finding
+pub found_of : Expr-F Expr → Finding
 found_of x = finding_step [] (map-Expr Expr Finding (finding []) x)
 
-value_of : Expr-F Expr → Value
+pub value_of : Expr-F Expr → Value
 value_of x = value_step [] [] (map-Expr Expr Value (value [] []) x)
 
-abbrev IsFound : Expr → Type 0
+abbrev pub IsFound : Expr → Type 0
 IsFound e = Stands (finding [] e) (value [] [] e)
 
-abbrev Sound : Type 0
+abbrev pub Sound : Type 0
 Sound = (e : Expr) × IsFound e
 
-abbrev exprs : {X : Type 0} → List (X × Sound) → List (X × Expr)
+abbrev pub exprs : {X : Type 0} → List (X × Sound) → List (X × Expr)
 exprs {X} ps = map {B = X × Expr} (λ (p : X × Sound). (p.0, p.1.0)) ps
 
-abbrev findings : {X : Type 0} → List (X × Expr) → List (X × Finding)
+abbrev pub findings : {X : Type 0} → List (X × Expr) → List (X × Finding)
 findings {X} es = map {B = X × Finding} (λ (q : X × Expr). (q.0, finding [] q.1)) es
 
-abbrev values_of : {X : Type 0} → List (X × Expr) → List (X × Value)
+abbrev pub values_of : {X : Type 0} → List (X × Expr) → List (X × Value)
 values_of {X} es = map {B = X × Value} (λ (q : X × Expr). (q.0, value [] [] q.1)) es
 
-node : (y : Expr-F Sound) → Stands (found_of (map-Expr Sound Expr (λ (e : Sound). e.0) y)) (value_of (map-Expr Sound Expr (λ (e : Sound). e.0) y))
+pub node : (y : Expr-F Sound) → Stands (found_of (map-Expr Sound Expr (λ (e : Sound). e.0) y)) (value_of (map-Expr Sound Expr (λ (e : Sound). e.0) y))
 unfolding found_of value_of
 node (Expr-F.Number n) = stands (number_finding n) (value.Int n) (value.Int n) (number_agrees n) tt
 node (Expr-F.Text bytes) = (value.Bytes bytes, text_agrees bytes, refl)
@@ -301,19 +301,19 @@ node (Expr-F.Sum parts) =
 node (Expr-F.Product first parts) = product_stands (finding [] first.0) (all_found (map (λ (part : Op × Finding). beside part.0 part.1) (findings (exprs parts)))) (value [] [] first.0) (values_of (exprs parts)) first.1
 node (Expr-F.Call f part) = call_stands f (finding [] part.0) (value [] [] part.0) part.1
 
-found_so : (e : Expr) → IsFound e
+pub found_so : (e : Expr) → IsFound e
 unfolding found_of value_of
 found_so = ind-Expr IsFound (λ x y is.
     subst (λ (r : Finding). Stands r (value [] [] (roll-Expr x))) (sym (fold-roll-Expr Finding (finding_step []) x))
     (subst (λ (v : Value). Stands (found_of x) v) (sym (fold-roll-Expr Value (value_step [] []) x))
     (subst (λ (z : Expr-F Expr). Stands (found_of z) (value_of z)) is (node y))))
 
-of_kinds : (r : Result ExprKind CheckFault) (w v : Value) → IsLike w v → IfOk r (λ kind. HasKind kind w) → IfOk r (λ kind. IsOfKind kind v)
+pub of_kinds : (r : Result ExprKind CheckFault) (w v : Value) → IsLike w v → IfOk r (λ kind. HasKind kind w) → IfOk r (λ kind. IsOfKind kind v)
 of_kinds (Ok kind) w v like has = like_kind kind w v like has
 of_kinds (Err fault) w v like has = tt
 
 -- a text that is the whole expression may stand for a date
-whole_kept : (e : Expr) (date : Bool) → IfOk (checked [] e date) (λ kind. IsOfKind kind (whole_value [] e date []))
+pub whole_kept : (e : Expr) (date : Bool) → IfOk (checked [] e date) (λ kind. IsOfKind kind (whole_value [] e date []))
 whole_kept e date = by_finding (finding [] e) refl (found_so e)
   where
     by_finding : (r : Finding) → finding [] e ≡ r → Stands r (value [] [] e) → IfOk (checked [] e date) (λ kind. IsOfKind kind (whole_value [] e date []))
@@ -324,7 +324,7 @@ whole_kept e date = by_finding (finding [] e) refl (found_so e)
 
 -- ---- an item
 
-of_kind : (k : Kind) (kind : ExprKind) (v : Value) → has_kind k kind ≡ true → IsOfKind kind v → is_of_kind k v ≡ true
+pub of_kind : (k : Kind) (kind : ExprKind) (v : Value) → has_kind k kind ≡ true → IsOfKind kind v → is_of_kind k v ≡ true
 of_kind k kind value.Null has so = refl
 of_kind k expr.Any (value.Int n) has so = absurd so
 of_kind k expr.Day (value.Int n) has so = absurd so
@@ -348,7 +348,7 @@ of_kind kind.BigInt expr.Bytes (value.Bytes bytes) has so = has
 of_kind kind.Date expr.Bytes (value.Bytes bytes) has so = has
 of_kind (kind.Binary most) expr.Bytes (value.Bytes bytes) has so = refl
 
-finding_valid : (less : Bool) (k : Kind) (v : Value) (r : Result ExprKind CheckFault) → is_wrong_finding less k v r ≡ false → is_wide_finding r ≡ false → is_out_finding k v r ≡ false
+pub finding_valid : (less : Bool) (k : Kind) (v : Value) (r : Result ExprKind CheckFault) → is_wrong_finding less k v r ≡ false → is_wide_finding r ≡ false → is_out_finding k v r ≡ false
     → IfOk r (λ kind. IsOfKind kind v) → ((not (is_of_kind k v) || less && is_null v) ≡ false) × (not (is_in_range k v) ≡ false)
 finding_valid less k v (Ok kind) wrong wide out so =
     let parts = or_parts _ _ wrong in
@@ -358,14 +358,14 @@ finding_valid less k v (Err (fault.NoColumn name)) wrong wide out so = absurd (t
 finding_valid less k v (Err fault.TooWide) wrong wide out so = absurd (true≢false wide)
 finding_valid less k v (Err fault.BadDate) wrong wide out so = absurd (true≢false out)
 
-item_valid : (less : Bool) (k : Kind) (item : BoundSpec) → is_wrong_item less k item ≡ false → is_wide_item k item ≡ false → is_out_item k item ≡ false
+pub item_valid : (less : Bool) (k : Kind) (item : BoundSpec) → is_wrong_item less k item ≡ false → is_wide_item k item ≡ false → is_out_item k item ≡ false
     → (is_wrong_bound less k (bound_of k item) ≡ false) × (is_bound_out k (bound_of k item) ≡ false)
 item_valid less k written.Max wrong wide out = (wrong, refl)
 item_valid less k (written.Value e) wrong wide out = finding_valid less k (worth k e) (item_finding k e) (or_parts _ _ wrong).1 wide out (whole_kept e (is_date k))
 
 -- ---- a tuple, and the tuples
 
-items_valid : (less : Bool) (kinds : List Kind) (items : List BoundSpec)
+pub items_valid : (less : Bool) (kinds : List Kind) (items : List BoundSpec)
     → has_item (is_wrong_item less) kinds items ≡ false → has_item is_wide_item kinds items ≡ false → has_item is_out_item kinds items ≡ false
     → (has_bound (is_wrong_bound less) kinds (tuple_of kinds items) ≡ false) × (has_bound is_bound_out kinds (tuple_of kinds items) ≡ false)
 items_valid less (k ∷ kinds) (item ∷ items) wrong wide out =
@@ -378,15 +378,15 @@ items_valid less (k ∷ kinds) (item ∷ items) wrong wide out =
 items_valid less (k ∷ kinds) [] wrong wide out = (refl, refl)
 items_valid less [] items wrong wide out = (refl, refl)
 
-tuple_length : (kinds : List Kind) (items : List BoundSpec) → length items ≡ length kinds → length (tuple_of kinds items) ≡ length kinds
+pub tuple_length : (kinds : List Kind) (items : List BoundSpec) → length items ≡ length kinds → length (tuple_of kinds items) ≡ length kinds
 tuple_length [] items same = refl
 tuple_length (k ∷ kinds) [] same = absurd (omega (arith, same))
 tuple_length (k ∷ kinds) (item ∷ items) same = ap suc (tuple_length kinds items (omega (arith, same)))
 
-counts_same : (kinds : List Kind) (items : List BoundSpec) → not (length items == length kinds) ≡ false → not (length (tuple_of kinds items) == length kinds) ≡ false
+pub counts_same : (kinds : List Kind) (items : List BoundSpec) → not (length items == length kinds) ≡ false → not (length (tuple_of kinds items) == length kinds) ≡ false
 counts_same kinds items e = ap not (eq-eqb _ _ (tuple_length kinds items (eqb-true _ _ (not-false _ e))))
 
-tuples_valid : (less : Bool) (kinds : List Kind) (tuples : List (List BoundSpec))
+pub tuples_valid : (less : Bool) (kinds : List Kind) (tuples : List (List BoundSpec))
     → list_any (is_wrong_written less kinds) tuples ≡ false → list_any (has_item is_wide_item kinds) tuples ≡ false → list_any (has_item is_out_item kinds) tuples ≡ false
     → (list_any (is_wrong_tuple less kinds) (map (tuple_of kinds) tuples) ≡ false) × (list_any (has_bound is_bound_out kinds) (map (tuple_of kinds) tuples) ≡ false)
 tuples_valid less kinds [] wrong wide out = (refl, refl)
@@ -401,33 +401,33 @@ tuples_valid less kinds (tuple ∷ tuples) wrong wide out =
 
 -- ---- how many tuples
 
-one_there : {A : Type 0} (x : A) (xs : List A) → x ∷ [] ≡ xs → (length xs == 1) ≡ true
+pub one_there : {A : Type 0} (x : A) (xs : List A) → x ∷ [] ≡ xs → (length xs == 1) ≡ true
 one_there x xs same = eq-eqb (length xs) 1 (sym (ap length same))
 
-some_there : {A B : Type 0} (f : A → B) (xs : List A) (ys : List B) → map f xs ≡ ys → 1 ≤ length xs → not (length ys == 0) ≡ true
+pub some_there : {A B : Type 0} (f : A → B) (xs : List A) (ys : List B) → map f xs ≡ ys → 1 ≤ length xs → not (length ys == 0) ≡ true
 some_there f xs ys same some =
     let counted : length ys ≡ length xs = sym (ap length same) ∙ length-map xs f in
     ap not (ne_eqb (length ys) 0 (λ is. omega (arith, some, counted, is)))
 
-range_count : (own : Option ValuesSpec) (tuples : List (List BoundSpec)) → range_tuples own ≡ Some tuples → (length tuples == 1) ≡ true
+pub range_count : (own : Option ValuesSpec) (tuples : List (List BoundSpec)) → range_tuples own ≡ Some tuples → (length tuples == 1) ≡ true
 range_count None tuples is = absurd (cc)
 range_count (Some values.LessMax) tuples is = one_there (written.Max ∷ []) tuples cc
 range_count (Some (values.Less items)) tuples is = one_there items tuples cc
 range_count (Some (values.Among entries)) tuples is = absurd (cc)
 
-list_count : (own : Option ValuesSpec) (tuples : List (List BoundSpec)) → list_tuples own ≡ Some tuples → IfSome own IsStorableValues → not (length tuples == 0) ≡ true
+pub list_count : (own : Option ValuesSpec) (tuples : List (List BoundSpec)) → list_tuples own ≡ Some tuples → IfSome own IsStorableValues → not (length tuples == 0) ≡ true
 list_count None tuples is so = absurd (cc)
 list_count (Some values.LessMax) tuples is so = absurd (cc)
 list_count (Some (values.Less items)) tuples is so = absurd (cc)
 list_count (Some (values.Among entries)) tuples is so = some_there entry_items entries tuples (cc) so.0.0
 
-none_there : (own : Option ValuesSpec) (tuples : List (List BoundSpec)) → no_tuples own ≡ Some tuples → (length tuples == 0) ≡ true
+pub none_there : (own : Option ValuesSpec) (tuples : List (List BoundSpec)) → no_tuples own ≡ Some tuples → (length tuples == 0) ≡ true
 none_there None tuples is = let same : [] ≡ tuples = cc in eq-eqb (length tuples) 0 (sym (ap length same))
 none_there (Some values.LessMax) tuples is = absurd (cc)
 none_there (Some (values.Less items)) tuples is = absurd (cc)
 none_there (Some (values.Among entries)) tuples is = absurd (cc)
 
-count_valid : (own : PartBy) (values : Option ValuesSpec) (tuples : List (List BoundSpec)) → tuples_in own values ≡ Some tuples → IfSome values IsStorableValues → is_tuple_count own (length tuples) ≡ true
+pub count_valid : (own : PartBy) (values : Option ValuesSpec) (tuples : List (List BoundSpec)) → tuples_in own values ≡ Some tuples → IfSome values IsStorableValues → is_tuple_count own (length tuples) ≡ true
 count_valid by.Whole values tuples is so = none_there values tuples is
 count_valid (by.Range e) values tuples is so = range_count values tuples is
 count_valid (by.List e) values tuples is so = list_count values tuples is so
@@ -470,7 +470,7 @@ module _ (table : List ℕ) (kinds : List Kind) (own : PartBy) (sub : Option Sub
   values_valid (Some items) ns so is none = items_pass items so.1 none
 
 -- partitions that are only counted have no VALUES
-hash_count : (columns : List Column) (instead : List ℕ) (own : HashSpec) → is_tuple_count (by_hash columns instead own) 0 ≡ true
+pub hash_count : (columns : List Column) (instead : List ℕ) (own : HashSpec) → is_tuple_count (by_hash columns instead own) 0 ≡ true
 hash_count columns instead (hash.Hash linear e) = refl
 hash_count columns instead (hash.Key linear []) = refl
 hash_count columns instead (hash.Key linear (name ∷ names)) = refl

@@ -14,7 +14,7 @@ use pt_value::{Bin, Cell, Kind, Value};
 use std::alloc::{AllocError, Global};
 
 /// The bounds of a partition.
-pub(crate) fn bounds_of(
+pub fn bounds_of(
     alloc: Global,
     columns: &Columns,
     by: &PartBy,

@@ -15,8 +15,12 @@ mod keys_made;
 mod made_names;
 mod parts_bounded;
 mod parts_named;
-mod subs_named;
+mod subpartitions;
 mod whole;
 
 pub use fault::DefFault;
-pub use whole::complete;
+pub use items_made::bounds_of;
+pub use made_names::part_name;
+pub use parts_bounded::bad_parts_bounds;
+pub use subpartitions::subs_named;
+pub use whole::{complete, partitioned};

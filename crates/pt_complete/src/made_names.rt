@@ -21,7 +21,7 @@ pub(crate) fn primary() -> Ident
 }
 
 /// The name of a partition that has none: `p` and its number.
-pub(crate) fn part_name(alloc: Global, number: u32) -> Result<Ident, AllocError>
+pub fn part_name(alloc: Global, number: u32) -> Result<Ident, AllocError>
     requires { number < 8192 }
     ensures { IfOk result (λ name. name ≡ codes "p" ++ decimal number) }
 {

@@ -9,7 +9,7 @@ use pt_distinct::bounds_refusal;
 use std::alloc::{AllocError, Global};
 
 /// The first partition with a bound or a value that may not stand there. The names of subpartitions play no part in it.
-pub(crate) fn bad_parts_bounds(
+pub fn bad_parts_bounds(
     alloc: Global,
     columns: &Columns,
     by: &PartBy,

@@ -7,7 +7,7 @@ ghost use Rattle.pt_written.specs.WrittenParts.{part_count, part_in, part_made, 
 
 use crate::items_made::bounds_of;
 use crate::made_names::part_name;
-use crate::subs_named::subs_named;
+use crate::subpartitions::subs_named;
 use pt_ast::{Columns, PartBy, PartDef, PartItem, PartSpec, Parts, Refusal, SubSpec, Tuples};
 use pt_distinct::Names;
 use pt_written::{part_count, sub_count};

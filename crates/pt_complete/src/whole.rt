@@ -70,7 +70,7 @@ fn completed(
 }
 
 /// A table of these columns and keys that is partitioned so, or what is refused of the partitioning.
-fn partitioned(
+pub fn partitioned(
     alloc: Global,
     table: &Ident,
     columns: Columns,

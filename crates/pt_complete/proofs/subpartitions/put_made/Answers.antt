@@ -2,7 +2,7 @@ use Rattle.std.proofs.Common.{◌∙◌, ◌++◌, ap, sym, subst, arith}
 use Rattle.std.specs.Prelude.{codes}
 use Rattle.pt_complete.specs.Making.{IsSpelled}
 use Rattle.pt_complete.proofs.Spelled.{sub_spelled}
-use Rattle.pt_complete.proofs.subs_named.put_made.Goals as goal
+use Rattle.pt_complete.proofs.subpartitions.put_made.Goals as goal
 
 pub put_name-requires : goal.put_name-requires
 put_name-requires c =

@@ -12,7 +12,7 @@ use std::alloc::{AllocError, Global};
 
 /// The names of a partition's subpartitions, which are added to those before them, behind that of the partition; or the first name
 /// that is too long or stands before.
-pub(crate) fn subs_named(
+pub fn subs_named(
     alloc: Global,
     names: &mut Names,
     sub: &Option<SubSpec>,

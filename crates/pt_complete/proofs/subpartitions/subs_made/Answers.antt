@@ -2,7 +2,7 @@ use Rattle.std.proofs.Common.{◌∙◌, ◌++◌, ◌∷◌, [], ap, sym, List,
 use Rattle.std.specs.Prelude.{codes, decimal}
 use Rattle.pt_written.specs.WrittenParts.{sub_names}
 use Rattle.pt_complete.proofs.Naming.{err_made, listed_found, listed_more, listed_names, listed_none, listed_subs, made_at, made_err, made_ok, made_past, made_within, ok_made, ok_then}
-use Rattle.pt_complete.proofs.subs_named.subs_made.Goals as goal
+use Rattle.pt_complete.proofs.subpartitions.subs_made.Goals as goal
 
 name : List ℕ → ℕ → List ℕ
 name part number = part ++ codes "sp" ++ decimal number
