@@ -26,5 +26,6 @@ pub mod TableFiles
 pub mod TablesHeld
 pub mod Taken
 pub mod Telling
+pub mod TellingAlter
 pub mod Unfit
 pub mod Writes

@@ -25,7 +25,7 @@ use Rattle.pt_session.proofs.Executing.{answered_executes, kept_executes, refuse
 -- # Stops
 
 -- a stop says the same whatever the call would have given
-same_stop : (T U : Type 0) (e : Stop) (Done Stopped Failed : Type 0) → ByStop {T = T} (Err e) Done Stopped Failed → ByStop {T = U} (Err e) Done Stopped Failed
+pub same_stop : (T U : Type 0) (e : Stop) (Done Stopped Failed : Type 0) → ByStop {T = T} (Err e) Done Stopped Failed → ByStop {T = U} (Err e) Done Stopped Failed
 same_stop T U NoMemory Done Stopped Failed had = had
 same_stop T U (BadFile name place) Done Stopped Failed had = had
 same_stop T U Fault Done Stopped Failed had = had
@@ -36,7 +36,7 @@ stopped_by T NoMemory Done Stopped had = had
 stopped_by T (BadFile name place) Done Stopped had = had
 stopped_by T Fault Done Stopped had = tt
 
-bad_of_none : (T : Type 0) (e : Stop) (P : List ℕ → ℕ → Type 0) → IfBad {T = T} (Err e) (λ name place. ⊥) → IfBad {T = Reply} (Err e) P
+pub bad_of_none : (T : Type 0) (e : Stop) (P : List ℕ → ℕ → Type 0) → IfBad {T = T} (Err e) (λ name place. ⊥) → IfBad {T = Reply} (Err e) P
 bad_of_none T NoMemory P none = tt
 bad_of_none T (BadFile name place) P none = absurd none
 bad_of_none T Fault P none = tt

@@ -1,5 +1,5 @@
 -- What calls and statements leave of the database that a session stands for.
-use Rattle.std.specs.Prelude.{◌≡◌, ◌⊎◌, ℕ, List, Result, IfOk, OnOk}
+use Rattle.std.specs.Prelude.{◌≡◌, ◌⊎◌, ℕ, List, Result, Err, IfOk, OnOk}
 use Rattle.std.specs.Str.{bytes_eq}
 use Rattle.indexmap.specs.IndexMap.{insert_entry}
 use Rattle.pt_host.specs.Listed.{FileList, by_name}
@@ -7,6 +7,7 @@ use Rattle.pt_host.specs.World.{World, OnlyLooks}
 use Rattle.pt_ast.specs.declared.database.Db.{Db}
 use Rattle.pt_ast.specs.declared.database.Row.{Row}
 use Rattle.pt_ast.specs.declared.database.Spot.{Spot}
+use Rattle.pt_ast.specs.declared.refusal.Refusal.{Refusal}
 use Rattle.pt_ast.specs.declared.reply.Reply.{Reply}
 use Rattle.pt_ast.specs.declared.table.TableDef.{TableDef}
 use Rattle.pt_store.specs.declared.stop.Stop.{Stop}
@@ -49,4 +50,14 @@ pub record Tells (meaning : Db → Outcome) (before after : Session) (map : File
   pub over : IsOver before (by_name map) → IsOverAfter after map next result
   pub executes : (db : Db) → StandsIn before map db → Executes after map next db (meaning db) result
   pub idle : (db : Db) → StandsIn before map db → db_behind db (meaning db) ≡ db → OnlyLooks old new × (after ≡ before)
+  pub bad : IsOver before (by_name map) → IfBad result (λ name place. Bad (by_name map) name place)
+
+-- What the execution of an ALTER tells. Such a statement may write though it leaves the database as it is: whether a partition that goes has
+-- rows is nothing that it looks at. A refusal changes neither files nor session; all else is as in Tells.
+pub record TellsAlter (meaning : Db → Outcome) (before after : Session) (map : FileList) (old new : World) (result : Result Reply Stop) : Type 0 where
+  pub next : FileList
+  pub step : IsStep after.store map next old new result
+  pub over : IsOver before (by_name map) → IsOverAfter after map next result
+  pub executes : (db : Db) → StandsIn before map db → Executes after map next db (meaning db) result
+  pub refused : (db : Db) → StandsIn before map db → (refusal : Refusal) → meaning db ≡ Err refusal → OnlyLooks old new × (after ≡ before)
   pub bad : IsOver before (by_name map) → IfBad result (λ name place. Bad (by_name map) name place)
