@@ -12,13 +12,13 @@ use Rattle.pt_session.specs.Directory.{HoldsIn}
 use Rattle.pt_session.specs.Session.{IsSession}
 use Rattle.pt_engine.specs.declared.ending.Ending.{Ending}
 use Rattle.pt_engine.specs.declared.ending.Ending.TheVariants.{Done, Usage, DiskFault, NoMemory, Damaged, InputFault, OutputFault, TooLong}
-use Rattle.pt_engine.specs.Answers.{HoldsAfter, ChangesNothing, after_all, after_one, answer_to, answers}
+use Rattle.pt_engine.specs.Answers.{HoldsAfter, ChangesNothing, Rests, after_all, after_one, answer_to, answers}
 use Rattle.pt_engine.specs.Kept.{IsInOrder, KeepsInOrder, StandsAfter}
 use Rattle.pt_engine.specs.Session.{EntersNothing, IsWithin}
 use Rattle.pt_engine.specs.Saying.{KeepsOne, AnswersOne, StandsOne, StopsOne, Unread, Within, AnswersFirst, StandsFirst, StopsFirst}
 use Rattle.pt_engine.proofs.AnswerLemmas.{says_whole, says_up_to, says_part, holds_push, first_push, answers_more, after_all-append}
 use Rattle.pt_engine.proofs.SessionLemmas.{session_holds}
-use Rattle.pt_engine.proofs.Unchanged.{stays, next_stays}
+use Rattle.pt_engine.proofs.Unchanged.{next_rests, stays}
 
 next_piece : (statements : List (List ℕ)) (count : ℕ) (piece : List ℕ) → count < length statements → piece ≡ get_or statements count piece → take (count + 1) statements ≡ take count statements ++ piece ∷ []
 next_piece statements count piece within is = take_more statements count piece within ∙ ap (λ p. take count statements ++ p ∷ []) (sym is)
@@ -80,8 +80,8 @@ module _ (db : Db) (statements : List (List ℕ)) (count : ℕ) (session : Sessi
       -- it leaves the database as it is, where each of them does
       one_idle : KeepsOne (count + 1) reading (after_all db had.readings) w new → ChangesNothing db statements → IsIdle old new
       one_idle keeps none =
-          let at = next_stays db statements count had.readings had.first none piece reading within next reads in
-          idle_on old w new (had.idle none) (keeps.idle (subst (λ d. after_one d reading ≡ d) (sym (stays db statements count had.readings had.first none)) at))
+          let at = next_rests db statements count had.readings had.first none piece reading within next reads in
+          idle_on old w new (had.idle none) (keeps.idle (subst (λ d. Rests d reading) (sym (stays db statements count had.readings had.first none)) at))
 
       stands_first : (ending : Ending) → StandsOne ending (count + 1) reading (after_all db had.readings) w new → StandsFirst ending db statements old new
       stands_first NoMemory one = (

@@ -1,10 +1,10 @@
 -- What a session stands for, and one statement in it.
 use Rattle.std.proofs.Common.{◌≡◌, ◌⊎◌, inl, inr, ℕ, List, [], ◌++◌, refl, ap, ◌∙◌, sym, subst, append_assoc}
 use Rattle.std.proofs.lemmas.List.{append-nil}
-use Rattle.std.specs.Prelude.{Result, Ok, Err, IfOk}
+use Rattle.std.specs.Prelude.{Bool, true, false, Result, Ok, Err, IfOk, IsErr}
 use Rattle.pt_host.specs.Listed.{FileList, by_name}
 use Rattle.pt_host.specs.Disk.{Fs, Files, EachImage, IsSound}
-use Rattle.pt_host.specs.World.{World, after_say, FailedSay, Since, IsQuiet}
+use Rattle.pt_host.specs.World.{World, after_say, FailedSay, Since, IsQuiet, OnlyLooks}
 use Rattle.pt_host.proofs.Runs.{since_then, since_weaken, since_say, after_say_now, after_say_dir, after_say_input, quiet_none, quiet_weaken, idle_none, idle_looks, idle_on, idle_say}
 use Rattle.pt_host.proofs.Shown.{shown_has}
 use Rattle.pt_left.specs.Left.{IsEither, IsLeft, Left}
@@ -16,7 +16,7 @@ use Rattle.pt_store.specs.declared.stop.Stop.TheVariants as stop
 use Rattle.pt_store.specs.Stops.{ByStop, IfBad}
 use Rattle.pt_store.specs.Store.{IsStore}
 use Rattle.pt_store.proofs.Moments.{store_kept}
-use Rattle.pt_db.specs.Outcome.{reply_of}
+use Rattle.pt_db.specs.Outcome.{Outcome, db_behind, reply_of}
 use Rattle.pt_flat.specs.Step.{step}
 use Rattle.pt_holds.specs.Bad.{Bad}
 use Rattle.pt_holds.specs.Holds.{Holds}
@@ -25,11 +25,11 @@ use Rattle.pt_reading.specs.declared.reading.Reading.TheVariants.{Spelled}
 use Rattle.pt_reading.specs.Reading.{Reads}
 use Rattle.pt_session.specs.declared.session.Session.{Session}
 use Rattle.pt_session.specs.Directory.{HoldsIn, File}
-use Rattle.pt_session.specs.Leaves.{Executes, Leaves, Tells}
+use Rattle.pt_session.specs.Leaves.{Executes, Leaves, TellsAlter}
 use Rattle.pt_session.specs.Session.{IsLeftAfter, IsOpenAfter, IsOver, IsOverAfter, IsSession, StandsIn}
 use Rattle.pt_engine.specs.declared.ending.Ending.{Ending}
 use Rattle.pt_engine.specs.declared.ending.Ending.TheVariants.{Done, Usage, DiskFault, NoMemory, Damaged, InputFault, OutputFault, TooLong}
-use Rattle.pt_engine.specs.Answers.{after_one, answer_to}
+use Rattle.pt_engine.specs.Answers.{Rests, after_one, answer_to, is_alteration}
 use Rattle.pt_engine.specs.Endings.{ending_of}
 use Rattle.pt_engine.specs.Saying.{AnswersOne, ExecutesOne, KeepsOne, LeavesOne, StandsOne, StopsOne, Within}
 use Rattle.pt_engine.specs.Session.{EntersNothing, GoesOn, IsWithin, StandsOver, StaysOver}
@@ -77,9 +77,9 @@ abbrev pub ended : Result Reply Stop → Result Reply Ending
 ended (Ok reply) = Ok reply
 ended (Err e) = Err (ending_of e)
 
-module _ (stmt : Stmt) (before after : Session) (map : FileList) (old new : World) (result : Result Reply Stop) (told : Tells (λ db. step db stmt) before after map old new result) where
+module _ (stmt : Stmt) (before after : Session) (map : FileList) (old new : World) (result : Result Reply Stop) (told : TellsAlter (λ db. step db stmt) before after map old new result) where
   -- where the map holds a database
-  module _ (number : ℕ) (db : Db) (stands : StandsIn before map db) where
+  module _ (number : ℕ) (db : Db) (stands : StandsIn before map db) (looks : is_alteration stmt ≡ false → db_behind db (step db stmt) ≡ db → OnlyLooks old new) where
     executed : Executes after map told.next db (step db stmt) result
     executed = told.executes db stands
 
@@ -101,12 +101,20 @@ module _ (stmt : Stmt) (before after : Session) (map : FileList) (old new : Worl
     text_by (Ok reply) is = ap (λ r. r.text) is
     text_by (Err e) is = tt
 
+    refused_looks : (outcome : Outcome) → step db stmt ≡ outcome → IsErr outcome → OnlyLooks old new
+    refused_looks (Ok change) is refused = let bad : false ≡ true = refused in cc
+    refused_looks (Err refusal) is refused = (told.refused db stands refusal is).0
+
+    looks_by : (test : Bool) → is_alteration stmt ≡ test → Rests db (Spelled stmt) → OnlyLooks old new
+    looks_by true is rests = refused_looks (step db stmt) refl (rests.1 is)
+    looks_by false is rests = looks is rests.0
+
     pub executed_one : ExecutesOne number (Spelled stmt) db after old new (ended result)
     executed_one = record {
       moments = quiet_weaken old new (IsEither map told.next) _ (λ files either. elim either [ inl left ↦ inl (here files left) | inr left ↦ there files left executed.leaves.between ]) told.step.moments;
       left = left_by result executed.leaves told.step.stands executed.not_bad;
       text = text_by result executed.reply;
-      idle = λ same. idle_looks old new (told.idle db stands same).0;
+      idle = λ rests. idle_looks old new (looks_by (is_alteration stmt) refl rests);
     }
 
   -- whether or not it holds one

@@ -1,12 +1,14 @@
 -- The answers to the statements of a script, and the database after them.
-use Rattle.std.specs.Prelude.{◌≡◌, ℕ, ◌+◌, ◌-◌, ◌≤◌, List, [], ◌∷◌, ◌++◌, length, take, All}
+use Rattle.std.specs.Prelude.{◌≡◌, ℕ, ◌+◌, ◌-◌, ◌≤◌, Bool, true, false, List, [], ◌∷◌, ◌++◌, length, take, All, IsErr}
 use Rattle.pt_ast.specs.declared.database.Db.{Db}
 use Rattle.pt_ast.specs.declared.refusal.Refusal.TheVariants as refusal
+use Rattle.pt_ast.specs.declared.statement.Stmt.{Stmt}
+use Rattle.pt_ast.specs.declared.statement.Stmt.TheVariants as stmt
 use Rattle.pt_db.specs.Texts.{refusal_text}
 use Rattle.pt_reading.specs.declared.reading.Reading.{Reading}
 use Rattle.pt_reading.specs.declared.reading.Reading.TheVariants.{Spelled, Syntax, TooDeep, LongName}
 use Rattle.pt_reading.specs.Reading.{Reads}
-use Rattle.pt_flat.specs.Step.{after, answer}
+use Rattle.pt_flat.specs.Step.{after, answer, step}
 
 -- what each statement of a list is read as
 abbrev pub AreRead : List (List ℕ) → List Reading → Type 0
@@ -47,9 +49,28 @@ pub record AreFirst (statements : List (List ℕ)) (k : ℕ) (readings : List Re
   pub within : k ≤ length statements
   pub read : AreRead (take k statements) readings
 
--- Each of the statements leaves this database as it is, however many of them are read.
+-- ALTER TABLE, with any of its actions
+abbrev pub is_alteration : Stmt → Bool
+is_alteration (stmt.AddParts table parts) = true
+is_alteration (stmt.AddCount table count) = true
+is_alteration (stmt.DropParts table names) = true
+is_alteration (stmt.Truncate table names) = true
+is_alteration (stmt.Coalesce table count) = true
+is_alteration (stmt.Reorganize table names parts) = true
+is_alteration (stmt.Exchange table part other) = true
+is_alteration (stmt.RemoveParts table) = true
+is_alteration (stmt.PartitionBy table spec) = true
+is_alteration _ = false
+
+-- One statement leaves this database as it is, and an ALTER TABLE is refused. (Whether partitions have rows is nothing that ALTER TABLE looks at:
+-- it may write what is there already.)
+abbrev pub Rests : Db → Reading → Type 0
+Rests db (Spelled stmt) = (after db stmt ≡ db) × (is_alteration stmt ≡ true → IsErr (step db stmt))
+Rests db _ = Unit {0}
+
+-- Each of the statements does so, however many of them are read.
 abbrev pub ChangesNothing : Db → List (List ℕ) → Type 0
-ChangesNothing db statements = (k : ℕ) (readings : List Reading) → AreFirst statements k readings → All (λ reading. after_one db reading ≡ db) readings
+ChangesNothing db statements = (k : ℕ) (readings : List Reading) → AreFirst statements k readings → All (Rests db) readings
 
 -- What is held, in the sense of Held, is the database after the first k statements of a script that begins with this one.
 pub record HoldsAfter (Held : Db → Type 0) (db : Db) (statements : List (List ℕ)) (k : ℕ) : Type 0 where

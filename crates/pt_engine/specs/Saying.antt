@@ -11,7 +11,7 @@ use Rattle.pt_session.specs.Directory.{HoldsIn}
 use Rattle.pt_session.specs.Session.{IsSession}
 use Rattle.pt_engine.specs.declared.ending.Ending.{Ending}
 use Rattle.pt_engine.specs.declared.ending.Ending.TheVariants.{DiskFault, NoMemory, OutputFault}
-use Rattle.pt_engine.specs.Answers.{AreFirst, ChangesNothing, after_one, answer_to, after_all, answers}
+use Rattle.pt_engine.specs.Answers.{AreFirst, ChangesNothing, Rests, after_one, answer_to, after_all, answers}
 use Rattle.pt_engine.specs.Kept.{KeepsInOrder, StandsAfter, StandsKeeping, StandsSaying}
 use Rattle.pt_engine.specs.Session.{IsWithin}
 
@@ -24,18 +24,18 @@ LeavesOne db later after new (Err DiskFault) = Unit {0}
 LeavesOne db later after new (Err _) = ⊥
 
 -- One statement was executed, which has this number and is read so: at each moment each image holds the database before it or the
--- one after it, and this is its answer. One that leaves the database as it is leaves the disk untouched.
+-- one after it, and this is its answer. One that rests leaves the disk untouched.
 pub record ExecutesOne (number : ℕ) (reading : Reading) (db : Db) (after : Session) (old new : World) (result : Result Reply Ending) : Type 0 where
   pub moments : IsQuiet old new (λ files. HoldsIn files db ⊎ HoldsIn files (after_one db reading))
   pub left : LeavesOne db (after_one db reading) after new result
   pub text : IfOk result (λ reply. reply.text ≡ answer_to db number reading)
-  pub idle : after_one db reading ≡ db → IsIdle old new
+  pub idle : Rests db reading → IsIdle old new
 
--- Of a statement: at each moment it is kept or not, and a part of its answer said only where it is kept. Where it leaves the database
--- as it is, the disk is untouched.
+-- Of a statement: at each moment it is kept or not, and a part of its answer said only where it is kept. Where it rests, the disk is
+-- untouched.
 pub record KeepsOne (number : ℕ) (reading : Reading) (db : Db) (old new : World) : Type 0 where
   pub moments : Since old new (λ m. EachImage m.fs (IsWithin db (after_one db reading) old.now.said (answer_to db number reading) m.said))
-  pub idle : after_one db reading ≡ db → IsIdle old new
+  pub idle : Rests db reading → IsIdle old new
 
 -- One statement was executed and kept, and then its answer said.
 pub record AnswersOne (number : ℕ) (piece : List ℕ) (db : Db) (after : Session) (old new : World) : Type 0 where

@@ -7,7 +7,8 @@
 //!   clause `headline`; `KeepsInOrder` of `specs/Kept.antt`).
 //! - What is printed and held at each ending (`stands`), when each ending comes (`usage`, `causes`, `damage`, `complete`), and
 //!   that no other directory is entered (`dir`).
-//! - A script of statements that leave the database as it is writes and syncs nothing (`idle`).
+//! - A script of statements that leave the database as it is writes and syncs nothing (`idle`). An ALTER TABLE that is not refused counts as a
+//!   change.
 //!
 //! A damaged file is told when it is read: a definition or the counter when the directory is opened, a row file by the statement
 //! that reads it. Then the directory held no database, and nothing else is promised of it.

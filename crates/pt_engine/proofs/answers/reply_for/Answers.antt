@@ -10,7 +10,8 @@ pub returns-in_err-execute-in-Spelled-clause-told : goal.returns-in_err-execute-
 returns-in_err-execute-in-Spelled-clause-told g c tells db is =
     let p = err_from_is_err_and c.from_residual.result c.from_residual.ensures.1 in
     rw (c.in-Spelled.is, p.1, p.2)
-    (executed_one c.in-Spelled.stmt c.args.session.now c.execute.new.session is.map _ _ (Err c.in_err-execute-in-Spelled.field-0.0) (c.in_err-execute-in-Spelled.ensures.told tells is.map is.store) c.args.number db is.is)
+    (executed_one c.in-Spelled.stmt c.args.session.now c.execute.new.session is.map _ _ (Err c.in_err-execute-in-Spelled.field-0.0) (c.in_err-execute-in-Spelled.ensures.told tells is.map is.store) c.args.number db is.is
+    (λ other same. c.in_err-execute-in-Spelled.ensures.idle other tells is.map db is.store is.is same))
 
 pub returns-in_err-execute-in-Spelled-clause-over : goal.returns-in_err-execute-in-Spelled-clause-over
 returns-in_err-execute-in-Spelled-clause-over g c =
@@ -23,7 +24,8 @@ returns-in_err-execute-in-Spelled-clause-over g c =
 pub returns-in_ok-execute-in-Spelled-clause-told : goal.returns-in_ok-execute-in-Spelled-clause-told
 returns-in_ok-execute-in-Spelled-clause-told g c tells db is =
     rw c.in-Spelled.is
-    (executed_one c.in-Spelled.stmt c.args.session.now c.execute.new.session is.map _ _ (Ok c.in_ok-execute-in-Spelled.field-0) (c.in_ok-execute-in-Spelled.ensures.told tells is.map is.store) c.args.number db is.is)
+    (executed_one c.in-Spelled.stmt c.args.session.now c.execute.new.session is.map _ _ (Ok c.in_ok-execute-in-Spelled.field-0) (c.in_ok-execute-in-Spelled.ensures.told tells is.map is.store) c.args.number db is.is
+    (λ other same. c.in_ok-execute-in-Spelled.ensures.idle other tells is.map db is.store is.is same))
 
 pub returns-in_err-refusal_reply-in-Syntax-clause-told : goal.returns-in_err-refusal_reply-in-Syntax-clause-told
 returns-in_err-refusal_reply-in-Syntax-clause-told g c tells db is =
