@@ -1,0 +1,4 @@
+pub mod Named
+pub mod Dropped
+pub mod Counted
+pub mod Repartitioned
