@@ -26,7 +26,8 @@ use Rattle.pt_complete.proofs.Valid.{none_six, none_three, six_none, three_none}
 use Rattle.pt_complete.proofs.ValidCounts.{AllHave, few_told, no_others, not_zero, told_few, zero_not}
 use Rattle.pt_complete.proofs.ValidNames.{both_none, not_refused}
 use Rattle.pt_actions.specs.Named.{by_ranges_or_lists, not_partitioned, with_parts}
-use Rattle.pt_actions.specs.Counted.{bad_count, bad_more, number_name, numbered_part, parts_more, with_more_of, with_numbered_of}
+use Rattle.pt_actions.specs.Counted.{bad_count, bad_more, number_name, numbered_part, parts_more, with_more_of}
+use Rattle.pt_actions.specs.Making.{with_numbered_of}
 
 -- ---- names: the new ones alone are asked
 

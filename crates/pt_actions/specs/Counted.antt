@@ -1,6 +1,6 @@
 -- ADD PARTITION PARTITIONS and COALESCE PARTITION: HASH and KEY have more or fewer partitions. MySQL 5.7 manual, section 22.3.2,
 -- "Management of HASH and KEY Partitions".
-use Rattle.std.specs.Prelude.{ℕ, ◌+◌, ◌-◌, ◌==◌, nat_le, List, [], ◌∷◌, ◌++◌, map, length, take, codes, Option, Result, Ok, Err}
+use Rattle.std.specs.Prelude.{ℕ, ◌+◌, ◌-◌, ◌==◌, nat_le, List, [], ◌∷◌, ◌++◌, map, length, take, codes, Option, Result}
 use Rattle.std.specs.Fmt.{decimal}
 use Rattle.std.specs.List.{range_with_len}
 use Rattle.pt_ast.specs.declared.table.PartDef.{PartDef}
@@ -8,7 +8,7 @@ use Rattle.pt_ast.specs.declared.table.TableDef.{TableDef}
 use Rattle.pt_ast.specs.declared.refusal.Refusal.{Refusal}
 use Rattle.pt_ast.specs.declared.refusal.Refusal.TheVariants as refusal
 use Rattle.pt_place.specs.Checks.{name_twice, part_names, too_many}
-use Rattle.pt_place.specs.First.{first_of, in_turn, in_turn_from, refused_if}
+use Rattle.pt_place.specs.First.{first_of, in_turn, refused_if}
 use Rattle.pt_written.specs.Complete.{refused_or}
 use Rattle.pt_actions.specs.Named.{by_ranges_or_lists, not_partitioned, with_parts}
 
@@ -45,16 +45,6 @@ bad_more table more def = first_of (
 -- The definition with so many partitions more, or what is refused.
 abbrev pub with_more_of : List ℕ → ℕ → TableDef → Result TableDef Refusal
 with_more_of table more def = refused_or (bad_more table more def) (with_parts def (parts_more more def.parts))
-
--- for the code: it asks the new names alone
-abbrev pub with_numbered_of : ℕ → TableDef → Result TableDef Refusal
-with_numbered_of more def =
-    refused_or (in_turn_from name_twice (part_names def.parts) (map number_name (range_with_len (length def.parts) more))) (with_parts def (parts_more more def.parts))
-
--- and puts those that come of it into the definition
-abbrev pub with_given : TableDef → Result (List PartDef) Refusal → Result TableDef Refusal
-with_given def (Ok parts) = Ok (with_parts def parts)
-with_given def (Err refusal) = Err refusal
 
 -- ---- fewer partitions
 

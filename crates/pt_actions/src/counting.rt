@@ -1,18 +1,12 @@
-ghost use Rattle.std.specs.Prelude.{◌≡◌, ◌+◌, ◌≤◌, ◌++◌, length, map, take, IfOk};
-ghost use Rattle.std.specs.List.{range_with_len};
-ghost use Rattle.pt_actions.specs.Counted.{bad_fewer, bad_more, coalesced_of, number_name, numbered_part, parts_fewer, parts_more};
+ghost use Rattle.std.specs.Prelude.{◌≡◌, take, IfOk};
+ghost use Rattle.pt_actions.specs.Counted.{bad_fewer, coalesced_of};
 ghost use Rattle.pt_actions.specs.Named.{with_parts};
 ghost use Rattle.pt_ast.specs.StorableDef.{IsStorableDef};
-ghost use Rattle.pt_place.specs.Checks.{name_twice, part_names, told};
-ghost use Rattle.pt_place.specs.First.{in_turn, in_turn_from};
 ghost use Rattle.pt_place.specs.Valid.{IsValid};
 
 use crate::naming::{is_by_values, is_whole};
-use crate::remaking::{apart, paired, with_parts};
-use pt_ast::{Idents, PartDef, Parts, Refusal, TableDef, Tuples};
-use pt_complete::part_name;
-use pt_distinct::Names;
-use pt_place::too_many;
+use crate::remaking::{apart, with_parts};
+use pt_ast::{Parts, Refusal, TableDef};
 use pt_value::Ident;
 use std::alloc::{AllocError, Global};
 

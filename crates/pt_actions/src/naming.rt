@@ -46,21 +46,12 @@ pub(crate) fn unknown_part(
     ensures { IfOk result (λ refusal. refusal ≡ first_in (no_part parts.now) names.now) }
 {
     let known = main_names(alloc, parts)?;
-    Ok(unknown_name(&known, parts, names))
-}
-
-/// The first of these names that isn't known, where the names of partitions are.
-fn unknown_name(known: &Names, parts: &[PartDef], names: &[Ident]) -> Option<Refusal>
-    requires { known.now ≡ main_names parts.now }
-    ensures { result ≡ first_in (no_part parts.now) names.now }
-{
-    let _parts = parts;
     for name in names {
         if !known.has(name) {
-            return Some(Refusal::UnknownPartition(*name));
+            return Ok(Some(Refusal::UnknownPartition(*name)));
         }
     }
-    None
+    Ok(None)
 }
 
 /// The names of partitions, without their subpartitions'.

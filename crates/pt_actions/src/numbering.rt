@@ -5,7 +5,8 @@ ghost use Rattle.std.specs.List.{range_with_len};
 ghost use Rattle.pt_place.specs.Checks.{name_twice, part_names, too_many};
 ghost use Rattle.pt_place.specs.First.{in_turn_from};
 ghost use Rattle.pt_written.specs.Complete.{refused_or};
-ghost use Rattle.pt_actions.specs.Counted.{number_name, parts_more, bad_count, with_given, with_numbered_of, with_more_of};
+ghost use Rattle.pt_actions.specs.Counted.{bad_count, number_name, parts_more, with_more_of};
+ghost use Rattle.pt_actions.specs.Making.{with_given, with_numbered_of};
 ghost use Rattle.pt_ast.specs.StorableDef.{IsStorableDef};
 ghost use Rattle.pt_place.specs.Valid.{IsValid};
 
