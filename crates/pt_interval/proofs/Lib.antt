@@ -7,3 +7,4 @@ pub mod Lists
 pub mod Walks
 pub mod Gap
 pub mod Places
+pub mod Skips

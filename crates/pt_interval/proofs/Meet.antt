@@ -134,3 +134,9 @@ module _ {T : Type 0} {cmp : T → T → Ordering} (order : IsTotalOrder cmp) wh
         subst (λ xs. IsMeeting cmp is_value least wanted out (p ∷ drop (i + 1) a) xs) at_q (subst (λ xs. IsMeeting cmp is_value least wanted out xs (drop j b)) at_p state) in
         let next = step_by out p (drop (i + 1) a) q (drop (j + 1) b) (shared cmp p q) (share p q here.p_rises.1 here.q_rises.1 ends) here in
         subst (λ xs. IsMeeting cmp is_value least wanted new (drop (i + 1) a) xs) (sym at_q) (subst (λ xs. IsMeeting cmp is_value least wanted xs (drop (i + 1) a) (q ∷ drop (j + 1) b)) (sym is_new) next)
+
+-- nothing is gathered yet
+pub begins : {T : Type 0} (cmp : T → T → Ordering) (is_value : T → Bool) (least : T) (out a b : List (Span T)) (i : ℕ) → out ≡ [] → ((v : T) → (has cmp (drop i a) v && has cmp b v) ≡ (has cmp a v && has cmp b v))
+    → IsRisingFrom cmp is_value (Some least) (drop i a) → IsRisingFrom cmp is_value (Some least) b → IsMeeting cmp is_value least (λ v. has cmp a v && has cmp b v) out (drop i a) b
+begins cmp is_value least out a b i none sets rises others =
+    subst (λ xs. IsMeeting cmp is_value least (λ v. has cmp a v && has cmp b v) xs (drop i a) b) (sym none) (record { sets = sets; out_rises = tt; p_rises = rises; q_rises = others; behind = inl rises })

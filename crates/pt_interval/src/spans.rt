@@ -94,7 +94,8 @@ impl<T: Line> Spans<T> {
         Ok(set)
     }
 
-    /// The values that are in both sets. It goes once over each.
+    /// The values that are in both sets. By halves it passes over the spans of this set that end before the other set begins, and goes
+    /// once over each from there on.
     pub fn meet(&self, alloc: Global, other: &Spans<T>) -> Result<Spans<T>, AllocError>
         ensures { IfOk result (λ set. (v : T) → has T.cmp set v ≡ (has T.cmp self.now v && has T.cmp other.now v)) }
     {

@@ -1,6 +1,10 @@
 use Rattle.std.proofs.Common.{sym, ◌∙◌}
-use Rattle.pt_interval.proofs.Meet.{ends_turn, step_at, turned}
+use Rattle.pt_interval.proofs.Meet.{begins, ends_turn, step_at, turned}
 use Rattle.pt_interval.proofs.meeting.shared.Goals as goal
+
+pub loop-i-init : goal.loop-i-init
+loop-i-init g c =
+    begins g.T.Line.cmp g.T.Line.is_value g.T.Line.least c.new-spans.result.items c.args.a.now c.args.b.now c.first_met-i.result c.new-spans.ensures.items c.first_met-i.ensures.sets c.first_met-i.ensures.rises c.requires.b_rises
 
 pub loop-i-preserved-then-ends_by : goal.loop-i-preserved-then-ends_by
 loop-i-preserved-then-ends_by g c =
