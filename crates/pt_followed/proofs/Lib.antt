@@ -1,0 +1,12 @@
+pub mod Edges
+pub mod Cases
+pub mod Counting
+pub mod Rows
+pub mod Named
+pub mod Checked
+pub mod Entered
+pub mod Placed
+pub mod Whole
+pub mod Calendar
+pub mod Comings
+pub mod Followed

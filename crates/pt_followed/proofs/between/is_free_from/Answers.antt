@@ -1,0 +1,5 @@
+use Rattle.pt_followed.proofs.Cases.{free_from}
+use Rattle.pt_followed.proofs.between.is_free_from.Goals as goal
+
+pub returns-in-len1-up : goal.returns-in-len1-up
+returns-in-len1-up c = rw c.in-Some.is (free_from c.in-Some.bounds.now c.in-len1-up.len_at_least)
