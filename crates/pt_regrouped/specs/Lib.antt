@@ -1,0 +1,3 @@
+pub mod NewParts
+pub mod Regrouped
+pub mod Steps
