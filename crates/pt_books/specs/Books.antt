@@ -46,6 +46,10 @@ AreBooks def before now books = (spot : Spot) → IsBook def before now spot (bo
 abbrev pub AreOthersSame : BTreeMap (ℕ × ℕ) Book → BTreeMap (ℕ × ℕ) Book → Spot → Type 0
 AreOthersSame old new spot = (query : Spot) → is_spot spot query ≡ false → book_at new query ≡ book_at old query
 
+-- every book is as it was
+abbrev pub AreBooksSame : BTreeMap (ℕ × ℕ) Book → BTreeMap (ℕ × ℕ) Book → Type 0
+AreBooksSame old new = (query : Spot) → book_at new query ≡ book_at old query
+
 -- The row was entered in the book of its spot, where no row agreed with it.
 pub record IsEntered (old new : BTreeMap (ℕ × ℕ) Book) (spot : Spot) (row : Row) : Type 0 where
   pub book : Book
@@ -59,13 +63,13 @@ pub record IsAgreeing (old new : BTreeMap (ℕ × ℕ) Book) (spot : Spot) (row 
   pub book : Book
   pub was : book_at old spot ≡ Some book
   pub taken : IsTaken book (entry_of book.keys row.cells) serial
-  pub same : (query : Spot) → book_at new query ≡ book_at old query
+  pub same : AreBooksSame old new
 
--- The row is entered, or one agrees with it.
+-- The row is entered, or one agrees with it. Want of memory changes no book.
 abbrev pub Enters : BTreeMap (ℕ × ℕ) Book → BTreeMap (ℕ × ℕ) Book → Spot → Row → Result (Option ℕ) AllocError → Type 0
 Enters old new spot row (Ok None) = IsEntered old new spot row
 Enters old new spot row (Ok (Some serial)) = IsAgreeing old new spot row serial
-Enters old new spot row (Err e) = Unit {0}
+Enters old new spot row (Err e) = AreBooksSame old new
 
 -- The row of this serial was taken out of the book of the spot.
 pub record IsRemoved (old new : BTreeMap (ℕ × ℕ) Book) (spot : Spot) (serial : ℕ) : Type 0 where

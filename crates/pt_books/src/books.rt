@@ -68,7 +68,8 @@ pub(crate) fn put_book(books: &mut Books, spot: Spot, book: KeyBook) -> Result<(
     Ok(())
 }
 
-/// Enters a row in the book of its spot. `Some` exactly where a row of the book agrees with it: the least serial of such rows.
+/// Enters a row in the book of its spot. `Some` exactly where a row of the book agrees with it: the least serial of such rows. Want of
+/// memory changes no book.
 pub fn enter(books: &mut Books, spot: Spot, row: &Row) -> Result<Option<u64>, AllocError>
     requires { IsSome (book_at books.old spot) }
     ensures { Enters books.old books.new spot row.now result }

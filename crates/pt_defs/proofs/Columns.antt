@@ -1,8 +1,7 @@
 -- Cells, columns and keys: what is written is read, and what is read was written.
-use Rattle.std.proofs.Common.{◌≡◌, ℕ, zero, suc, ◌<◌, ◌≤◌, ◌^◌, Bool, true, false, cond, ◌==◌, ℤ, List, [], ◌∷◌, ◌++◌, length, Option, Some, None, refl, sym, ap, ◌∙◌, subst, arith, append_assoc}
-use Rattle.std.specs.Prelude.{Result, Ok, Err, IfSome, nat_lt, codes}
-use Rattle.std.specs.Str.{bytes_eq}
-use Rattle.std.specs.List.{flat_map, AllByRecursion}
+use Rattle.std.proofs.Common.{◌≡◌, ℕ, zero, suc, ◌<◌, ◌≤◌, ◌^◌, Bool, true, false, cond, ◌==◌, List, [], ◌∷◌, ◌++◌, length, Option, Some, None, refl, sym, ap, ◌∙◌, subst, arith}
+use Rattle.std.specs.Prelude.{Ok, Err, IfSome, nat_lt, codes}
+use Rattle.std.specs.List.{flat_map}
 use Rattle.std.proofs.lemmas.Bool.{ltb-true}
 use Rattle.std.proofs.lemmas.Slice.Eq.{bytes_eq-Decides}
 use Rattle.pt_value.specs.Ident.{IsIdent}
@@ -15,12 +14,12 @@ use Rattle.pt_ast.specs.declared.table.Column.{Column}
 use Rattle.pt_ast.specs.declared.table.Rank.{Rank}
 use Rattle.pt_ast.specs.declared.table.Rank.TheVariants as rank
 use Rattle.pt_ast.specs.declared.table.KeyDef.{KeyDef}
-use Rattle.pt_ast.specs.StorableDef.{IsNamedByRank, IsShortValue, IsStorableColumn}
-use Rattle.pt_defs.specs.Spelling.{cell_text, column_text, default_text, flag, i32_text, i64_text, key_text, kind_text, list_text, name_text, positions_text, rank_code, string_text}
-use Rattle.pt_defs.specs.Reading.{◌>>=◌, Read, Reader, byte_at, cell_at, cell_behind, column_at, count_at, day_at, default_at, flag_at, int_at, key_at, key_name_at, kind_at, kind_behind, list_at, made, many, may_name, meant, name_at, number_at, pass, plus_at, position_at, positions_at, rank_at, rank_of, string_at}
-use Rattle.pt_defs.specs.Fitting.{FitsCell, FitsColumn, FitsKind}
+use Rattle.pt_ast.specs.StorableDef.{IsNamedByRank, IsShortValue}
+use Rattle.pt_defs.specs.Spelling.{cell_text, column_text, default_text, flag, key_text, kind_text, list_text, name_text, positions_text, rank_code}
+use Rattle.pt_defs.specs.Reading.{◌>>=◌, Read, Reader, byte_at, cell_at, cell_behind, column_at, count_at, day_at, default_at, flag_at, int_at, key_at, key_name_at, kind_at, kind_behind, list_at, made, many, may_name, meant, name_at, number_at, pass, position_at, positions_at, rank_at, rank_of, string_at}
+use Rattle.pt_defs.specs.Fitting.{FitsCell, FitsKind}
 use Rattle.pt_defs.proofs.Steps.{Codec, Was, AreBytes-behind, either, first, from_bind, from_made, from_meant, from_pass, in_row, last, one_ok, one_some, same_pair}
-use Rattle.pt_defs.proofs.Items.{AreCounted, AreSoMany, IsCount, byte_sound, count, day, int, name, number, position, so_many, string}
+use Rattle.pt_defs.proofs.Items.{AreCounted, IsCount, byte_sound, count, day, int, name, number, position, so_many, string}
 
 -- ---- a list behind how many items it has
 

@@ -1,5 +1,5 @@
 -- A definition that is storable and fits its types is one whose body is read, and the other way round.
-use Rattle.std.proofs.Common.{◌≡◌, ℕ, suc, ◌<◌, ◌≤◌, ◌^◌, Bool, true, false, List, [], ◌∷◌, length, refl, sym, ap, ◌∙◌, subst, arith, All, Option, Some, None, IfSome}
+use Rattle.std.proofs.Common.{◌≡◌, ℕ, ◌≤◌, true, false, List, [], length, refl, sym, subst, arith, All, Option, Some, None, IfSome}
 use Rattle.std.specs.List.{AllByRecursion}
 use Rattle.std.proofs.lemmas.Bool.{true≢false}
 use Rattle.std.proofs.lemmas.List.Elements.{All-from_recursion, recursion_from_All}
@@ -18,7 +18,7 @@ use Rattle.pt_ast.specs.StorableDef.{AreBoundsOf, AreSubsOf, IsKeptExpr, IsShort
 use Rattle.pt_defs.specs.Fitting.{FitsBound, FitsBy, FitsCell, FitsColumn, FitsDef, FitsExpr, FitsPart}
 use Rattle.pt_defs.proofs.Columns.{IsCell, IsColumn}
 use Rattle.pt_defs.proofs.Exprs.{Good, all_map}
-use Rattle.pt_defs.proofs.Parts.{BoundsOf, GoodBy, IsBy, IsPart, KeyIs, MayBe, SubsOf, join_all, split_all}
+use Rattle.pt_defs.proofs.Parts.{BoundsOf, GoodBy, IsBy, IsPart, MayBe, SubsOf, join_all, split_all}
 use Rattle.pt_defs.proofs.Whole.{BehindIs, IsBody}
 
 -- how deep an expression of a file nests at most

@@ -1,6 +1,6 @@
 -- Expressions: what is written is read, and what is read was written.
-use Rattle.std.proofs.Common.{◌≡◌, ℕ, zero, suc, ◌+◌, ◌-◌, ◌<◌, ◌≤◌, ◌^◌, Bool, true, false, cond, ◌==◌, ℤ, List, [], ◌∷◌, ◌++◌, length, map, Option, Some, None, refl, sym, ap, ap₂, ◌∙◌, subst, arith, append_assoc}
-use Rattle.std.specs.Prelude.{Result, Ok, Err}
+use Rattle.std.proofs.Common.{◌≡◌, ℕ, zero, suc, ◌-◌, ◌<◌, ◌≤◌, ◌^◌, Bool, false, List, [], ◌∷◌, ◌++◌, length, map, Option, Some, None, refl, sym, ap, ap₂, ◌∙◌, subst, arith}
+use Rattle.std.specs.Prelude.{Ok, Err}
 use Rattle.std.specs.List.{flat_map, AllByRecursion}
 use Rattle.std.proofs.lemmas.List.{length-map}
 use Rattle.pt_bytes.specs.Numbers.{AreBytes, le_bytes}
@@ -16,13 +16,13 @@ use Rattle.pt_ast.specs.Storable.{HasAtLeast}
 use Rattle.pt_ast.specs.StorableExpr.{BeginsWithPlus, IsStorableNode, depth, depth_step}
 use Rattle.pt_ast.specs.StorableDef.{IsKeptNode}
 use Rattle.pt_defs.specs.Spelling.{expr_text, factor_text, flag, func_code, list_text, node_text, op_code, term_text}
-use Rattle.pt_defs.specs.Reading.{◌>>=◌, Read, Reader, byte_at, call_at, count_at, date_at, expr_at, factors_at, flag_at, func_of, list_at, made, many, named_at, node_behind, op_at, pair_at, plus_at, product_at, string_at, terms_at, whole_at}
+use Rattle.pt_defs.specs.Reading.{Read, Reader, byte_at, call_at, count_at, date_at, expr_at, factors_at, flag_at, func_of, made, many, named_at, node_behind, op_at, pair_at, plus_at, product_at, string_at, terms_at, whole_at}
 use Rattle.pt_defs.specs.Fitting.{FitsNode}
-use Rattle.pt_defs.proofs.Steps.{Codec, Was, AreBytes-behind, either, first, from_bind, from_made, from_meant, from_pass, in_row, last, one_ok, one_some, same_pair}
-use Rattle.pt_defs.proofs.Items.{AreCounted, AreSoMany, IsCount, byte_sound, count, so_many, string}
+use Rattle.pt_defs.proofs.Steps.{Codec, Was, AreBytes-behind, either, first, from_bind, from_made, in_row, last, one_ok, same_pair}
+use Rattle.pt_defs.proofs.Items.{AreCounted, byte_sound, count, so_many, string}
 use Rattle.pt_defs.proofs.Columns.{is_flag, list}
 use Rattle.pt_defs.proofs.Nodes.{depth_kids, depth_roll, every_kids, every_roll, kids}
-use Rattle.pt_defs.proofs.Leaves.{IsNamed, date, func_only, is_op, named_column, pair, plus, whole}
+use Rattle.pt_defs.proofs.Leaves.{date, func_only, is_op, named_column, pair, plus, whole}
 
 -- ---- facts of lists
 

@@ -1,13 +1,13 @@
 -- The fields that stand alone: numbers, names and strings at the front of bytes.
-use Rattle.std.proofs.Common.{◌≡◌, ℕ, zero, suc, ◌+◌, ◌-◌, ◌*◌, ◌<◌, ◌≤◌, Bool, true, false, cond, leb, eqb, List, [], ◌∷◌, length, take, drop, get_or, Option, Some, None, refl, sym, ap, ap₂, subst, ◌∙◌, arith}
-use Rattle.std.specs.Prelude.{Result, Ok, Err, IfOk, IfErr, IsTrue, ◌&&◌, nat_lt, nat_le}
+use Rattle.std.proofs.Common.{◌≡◌, ℕ, ◌+◌, ◌-◌, ◌<◌, ◌≤◌, Bool, true, false, cond, leb, eqb, List, [], ◌∷◌, length, take, drop, get_or, Some, None, refl, sym, ap, ap₂, ◌∙◌, arith}
+use Rattle.std.specs.Prelude.{Result, Ok, Err, IfOk, IfErr, ◌&&◌, nat_lt, nat_le}
 use Rattle.std.specs.Option.{option_map}
 use Rattle.std.specs.Result.{result_ok}
 use Rattle.std.specs.List.{list_all}
 use Rattle.std.proofs.lemmas.Bool.{le-leb, lt-leb, leb-true, leb-false, ltb-true, lt-ltb, eq-eqb, ne_eqb, and_from, and_parts, true≢false}
 use Rattle.std.proofs.lemmas.List.{take_all, get_or-map}
 use Rattle.std.proofs.lemmas.List.Sums.{list_all-from_AllPass, AllPass-from_list_all}
-use Rattle.pt_value.specs.Ident.{IsIdent, IsFirstBad, is_ident_byte}
+use Rattle.pt_value.specs.Ident.{IsIdent, is_ident_byte}
 use Rattle.pt_value.specs.NameFault.{IsNameFault}
 use Rattle.pt_value.specs.declared.ident.NameFault.{NameFault}
 use Rattle.pt_value.specs.declared.ident.NameFault.TheVariants.{Empty, TooLong, BadByte}
@@ -15,7 +15,7 @@ use Rattle.pt_bytes.specs.Numbers as numbers
 use Rattle.pt_bytes.proofs.Parts.{part_there, part_missing}
 use Rattle.pt_ast.specs.declared.table.Column.{Column}
 use Rattle.pt_defs.specs.Spelling.{column_place}
-use Rattle.pt_defs.specs.Reading.{◌>>=◌, Read, byte_at, field, first_named, has_length, is_ident, made, name_of, number_at, part_at, pass, short_at, stop, string_at}
+use Rattle.pt_defs.specs.Reading.{byte_at, first_named, has_length, is_ident, name_of, number_at, part_at, short_at, string_at}
 
 -- ---- numbers
 

@@ -1,20 +1,19 @@
 -- Numbers, names, cells and columns: what is written is read, and what is read was written.
-use Rattle.std.proofs.Common.{◌≡◌, ℕ, zero, suc, ◌+◌, ◌*◌, ◌-◌, ◌<◌, ◌≤◌, ◌^◌, Bool, true, false, cond, leb, ltb, ◌==◌, ℤ, List, [], ◌∷◌, ◌++◌, length, take, drop, Option, Some, None, refl, sym, ap, ap₂, ◌∙◌, subst, arith, append_assoc, append-nil, length-append, length-take}
-use Rattle.std.specs.Prelude.{Result, Ok, Err, IfSome, nat_lt, nat_le, ◌&&◌}
-use Rattle.std.specs.Int.{w32, w64, w128, cast_signed, cast_unsigned}
+use Rattle.std.proofs.Common.{◌≡◌, ℕ, zero, suc, ◌<◌, ◌≤◌, ◌^◌, true, ℤ, List, [], ◌∷◌, ◌++◌, length, take, drop, refl, sym, ap, ap₂, ◌∙◌, subst, arith, length-append, length-take}
+use Rattle.std.specs.Prelude.{Ok, Err, nat_lt, nat_le, ◌&&◌}
+use Rattle.std.specs.Int.{w32, w64, cast_signed, cast_unsigned}
 use Rattle.std.specs.Int.RustNames.{FitsSigned}
-use Rattle.std.specs.List.{list_all, flat_map, AllByRecursion}
+use Rattle.std.specs.List.{flat_map, AllByRecursion}
 use Rattle.std.proofs.Math.Facts.{Fits-of_lt, Fits-of_z, sfits_to_z}
 use Rattle.std.proofs.lemmas.Int.{to_z-of_z, of_z-to_z}
 use Rattle.std.proofs.lemmas.Bool.{le-leb, leb-true, lt-ltb, ltb-true, and_from, and_parts}
 use Rattle.std.proofs.lemmas.List.{take_at, drop_at, take-append-drop}
-use Rattle.std.proofs.lemmas.List.Elements.{All-tail}
 use Rattle.std.proofs.lemmas.List.Sums.{list_all-from_AllPass}
 use Rattle.pt_value.specs.Ident.{IsIdent, is_ident_byte}
 use Rattle.pt_bytes.specs.Numbers.{AreBytes, le_bytes, number_of}
 use Rattle.pt_bytes.proofs.Numbers.{again, back, below, length-le_bytes}
 use Rattle.pt_ast.specs.StorableDef.{IsShort}
-use Rattle.pt_defs.specs.Spelling.{i32_text, i64_text, list_text, name_text, string_text}
+use Rattle.pt_defs.specs.Spelling.{i32_text, i64_text, name_text, string_text}
 use Rattle.pt_defs.specs.Reading.{◌>>=◌, Read, Reader, byte_at, count_at, day_at, int_at, is_ident, list_at, made, many, name_at, number_at, part_at, pass, position_at, short_at, string_at}
 use Rattle.pt_defs.proofs.Fields.{ident_is, part_enough}
 use Rattle.pt_defs.proofs.Steps.{Codec, Was, AreBytes-behind, AreBytes-front, first, from_bind, from_field, from_made, from_pass, in_row, last, one_ok, same_pair}

@@ -1,4 +1,5 @@
 pub mod Texts
+pub mod Positions
 pub mod Fields
 pub mod Loops
 pub mod Steps
@@ -10,4 +11,5 @@ pub mod Exprs
 pub mod Parts
 pub mod Whole
 pub mod Defs
+pub mod ExprFits
 pub mod Files

@@ -1,7 +1,7 @@
 -- Layers of an expression: what is said of each node, taken apart and put together.
-use Rattle.std.proofs.Common.{◌≡◌, ℕ, suc, ◌≤◌, List, [], ◌∷◌, map, max, refl, arith, ap, ap₂, ◌∙◌, sym, subst}
+use Rattle.std.proofs.Common.{◌≡◌, ℕ, suc, ◌≤◌, List, [], ◌∷◌, map, refl, arith, ap, subst}
 use Rattle.std.specs.List.{AllByRecursion}
-use Rattle.pt_ast.specs.declared.tree.Expr.{Expr, every-Expr, every_here-Expr, every_held-Expr, every_made-Expr, fold_out-Expr, fold-roll-Expr, map-Expr, out-Expr, roll-Expr, roll-out-Expr}
+use Rattle.pt_ast.specs.declared.tree.Expr.{Expr, every-Expr, every_held-Expr, every_made-Expr, fold_out-Expr, fold-roll-Expr, map-Expr, out-Expr, roll-Expr}
 use Rattle.pt_ast.specs.declared.tree.Expr.TheOpen.{Expr-F}
 use Rattle.pt_ast.specs.Storable.{greatest}
 use Rattle.pt_ast.specs.StorableExpr.{depth, depth_step}

@@ -1,14 +1,13 @@
 -- Partitionings and partitions: what is written is read, and what is read was written.
-use Rattle.std.proofs.Common.{◌≡◌, ℕ, zero, suc, ◌<◌, ◌≤◌, ◌^◌, Bool, true, false, cond, ◌==◌, ◌&&◌, List, [], ◌∷◌, ◌++◌, length, refl, sym, ap, ◌∙◌, subst, arith, append_assoc, append-nil, All}
-use Rattle.std.specs.Prelude.{Result, Ok, Err}
+use Rattle.std.proofs.Common.{◌≡◌, ℕ, ◌<◌, ◌≤◌, ◌^◌, Bool, true, false, cond, ◌==◌, ◌&&◌, List, [], ◌∷◌, ◌++◌, length, refl, sym, ap, ◌∙◌, subst, arith, All}
+use Rattle.std.specs.Prelude.{Ok, Err}
 use Rattle.std.specs.List.{flat_map, AllByRecursion}
 use Rattle.std.proofs.lemmas.Bool.{true≢false}
 use Rattle.std.proofs.lemmas.List.Elements.{All-from_recursion, recursion_from_All}
 use Rattle.pt_value.specs.Ident.{IsIdent}
 use Rattle.pt_value.specs.declared.value.Value.{Value}
 use Rattle.pt_value.specs.declared.value.Value.TheVariants as value
-use Rattle.pt_bytes.specs.Numbers.{AreBytes, le_bytes}
-use Rattle.pt_ast.specs.declared.tree.Expr.{Expr}
+use Rattle.pt_bytes.specs.Numbers.{AreBytes}
 use Rattle.pt_ast.specs.declared.table.Column.{Column}
 use Rattle.pt_ast.specs.declared.table.KeyDef.{KeyDef}
 use Rattle.pt_ast.specs.declared.table.PartBy.{PartBy}
@@ -16,14 +15,14 @@ use Rattle.pt_ast.specs.declared.table.PartBy.TheVariants as by
 use Rattle.pt_ast.specs.declared.table.Bound.{Bound}
 use Rattle.pt_ast.specs.declared.table.Bound.TheVariants as bound
 use Rattle.pt_ast.specs.declared.table.PartDef.{PartDef}
-use Rattle.pt_ast.specs.Storable.{HasAtLeast, IsCounted}
+use Rattle.pt_ast.specs.Storable.{HasAtLeast}
 use Rattle.pt_ast.specs.StorableDef.{ArePositions, AreSomePositions, IsShortBound, IsStorableKey, IsStorableTuple}
 use Rattle.pt_defs.specs.Spelling.{bound_text, bounds_text, by_text, cell_text, expr_text, key_text, list_text, name_text, part_text, positions_text, subs_text, tuple_text}
-use Rattle.pt_defs.specs.Reading.{◌>>=◌, Read, Reader, bound_at, bounds_at, by_at, by_behind, byte_at, cell_at, cell_behind, expr_at, key_at, list_at, made, many, name_at, part_def_at, positions_at, subs_at, tuple_at}
+use Rattle.pt_defs.specs.Reading.{Read, Reader, bound_at, bounds_at, by_at, by_behind, byte_at, cell_at, cell_behind, expr_at, key_at, list_at, made, many, name_at, part_def_at, positions_at, subs_at, tuple_at}
 use Rattle.pt_defs.specs.Fitting.{FitsBound}
-use Rattle.pt_defs.proofs.Steps.{Codec, Was, AreBytes-behind, either, first, from_bind, from_made, in_row, is_number, last, one_ok, same_pair}
+use Rattle.pt_defs.proofs.Steps.{Codec, Was, AreBytes-behind, either, first, from_bind, from_made, in_row, last, one_ok, same_pair}
 use Rattle.pt_defs.proofs.Items.{AreCounted, AreSoMany, byte_sound, name, so_many}
-use Rattle.pt_defs.proofs.Columns.{ArePlaces, IsCell, IsKey, IsKeyName, behind_sound, cell, is_key, list, positions}
+use Rattle.pt_defs.proofs.Columns.{ArePlaces, IsKey, behind_sound, cell, is_key, list, positions}
 use Rattle.pt_defs.proofs.Exprs.{Good, expr}
 
 -- the same condition in other words

@@ -1,10 +1,10 @@
 -- Steps of a reader, taken apart and put together.
-use Rattle.std.proofs.Common.{◌≡◌, ℕ, suc, ◌<◌, ◌^◌, Bool, true, false, cond, ◌==◌, List, [], ◌∷◌, ◌++◌, length, Option, Some, None, refl, sym, ap, ◌∙◌, subst, arith, append_assoc, length-append}
+use Rattle.std.proofs.Common.{◌≡◌, ℕ, suc, ◌<◌, Bool, true, false, cond, ◌==◌, List, [], ◌∷◌, ◌++◌, Option, Some, None, refl, sym, ap, ◌∙◌, subst, arith, append_assoc, length-append}
 use Rattle.std.specs.Prelude.{Result, Ok, Err}
 use Rattle.std.proofs.lemmas.Bool.Decides.{Decides-eqb}
 use Rattle.std.proofs.lemmas.List.{get_or_append_left}
 use Rattle.pt_bytes.specs.Numbers.{AreBytes}
-use Rattle.pt_defs.specs.Reading.{◌>>=◌, Read, Reader, byte_at, field, made, meant, pass}
+use Rattle.pt_defs.specs.Reading.{◌>>=◌, Read, Reader, field, made, meant, pass}
 
 -- ---- a value that is there came from one that was
 

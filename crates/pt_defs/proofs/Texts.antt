@@ -1,12 +1,12 @@
 -- Texts written one behind the other.
-use Rattle.std.proofs.Common.{subst, ◌≡◌, ℕ, zero, suc, ◌+◌, ◌<◌, ◌≤◌, get_or, map, take, ap₂, ◌*◌, ◌/◌, ◌%◌, ◌^◌, List, [], ◌∷◌, ◌++◌, length, Option, Some, None, refl, sym, ap, ◌∙◌, append_assoc, arith, cond, Bool, true, false, ltb}
+use Rattle.std.proofs.Common.{subst, ◌≡◌, ℕ, ◌<◌, ◌≤◌, map, take, ap₂, ◌/◌, ◌%◌, ◌^◌, List, [], ◌∷◌, ◌++◌, length, Some, None, refl, sym, ap, ◌∙◌, append_assoc, arith, cond, Bool, true, false, ltb}
 use Rattle.std.specs.Prelude.{Result, Ok, Err, OnOk}
 use Rattle.std.specs.List.{position, position_or_len}
 use Rattle.std.specs.List.{flat_map}
 use Rattle.std.specs.Prelude.{not}
 use Rattle.std.proofs.lemmas.Bool.{ltb-false}
 use Rattle.std.proofs.lemmas.List.Sums.{prefix_len-le-length}
-use Rattle.std.proofs.lemmas.List.{take_all, length-map, flat_map_more, map_more}
+use Rattle.std.proofs.lemmas.List.{take_all, length-map}
 use Rattle.pt_bytes.specs.Numbers.{le_bytes}
 use Rattle.pt_ast.specs.declared.tree.Func.{Func}
 use Rattle.pt_ast.specs.declared.tree.Op.{Op}

@@ -1,26 +1,20 @@
 -- The whole file: what is written is read, and what is read was written.
-use Rattle.std.proofs.Common.{◌≡◌, ◌↔◌, ℕ, zero, suc, ◌-◌, ◌+◌, ◌<◌, ◌≤◌, ◌^◌, Bool, true, false, cond, ◌==◌, ◌&&◌, List, [], ◌∷◌, ◌++◌, length, take, drop, refl, sym, ap, ap₂, ◌∙◌, subst, arith, append_assoc, append-nil, length-append, length-take, length-drop, All}
-use Rattle.std.specs.Prelude.{Result, Ok, Err, nat_le, IfSome, Option, Some, None}
+use Rattle.std.proofs.Common.{◌≡◌, ℕ, ◌≤◌, Bool, true, false, cond, ◌==◌, List, [], ◌++◌, length, refl, sym, ap, ap₂, ◌∙◌, subst, append-nil}
+use Rattle.std.specs.Prelude.{Result, Ok, Err}
 use Rattle.std.specs.List.{flat_map, AllByRecursion}
-use Rattle.std.specs.Str.{bytes_eq}
-use Rattle.std.proofs.lemmas.Bool.{and_from, and_parts, eq-eqb, eqb-true, le-leb, leb-true}
-use Rattle.std.proofs.lemmas.List.{take_at, drop_at, drop-drop, nil_from_length, take-append-drop}
-use Rattle.std.proofs.lemmas.List.Elements.{All-from_recursion, recursion_from_All}
-use Rattle.std.proofs.lemmas.Slice.Eq.{bytes_eq-Decides}
-use Rattle.pt_value.specs.Ident.{IsIdent}
-use Rattle.pt_bytes.specs.Numbers.{AreBytes, le_bytes, number_of}
-use Rattle.pt_bytes.proofs.Numbers.{again, back, below, length-le_bytes}
+use Rattle.std.proofs.lemmas.Bool.{eqb-true}
+use Rattle.std.proofs.lemmas.List.{nil_from_length}
+use Rattle.pt_bytes.specs.Numbers.{AreBytes, le_bytes}
 use Rattle.pt_ast.specs.declared.table.Column.{Column}
 use Rattle.pt_ast.specs.declared.table.KeyDef.{KeyDef}
 use Rattle.pt_ast.specs.declared.table.PartBy.{PartBy}
 use Rattle.pt_ast.specs.declared.table.PartBy.TheVariants as by
-use Rattle.pt_ast.specs.declared.table.Bound.{Bound}
 use Rattle.pt_ast.specs.declared.table.PartDef.{PartDef}
 use Rattle.pt_ast.specs.declared.table.TableDef.{TableDef}
-use Rattle.pt_ast.specs.Storable.{HasAtLeast, IsCounted}
-use Rattle.pt_defs.specs.Spelling.{Spells, behind_text, body_text, by_text, column_text, def_text, head_text, key_text, list_text, part_text}
-use Rattle.pt_defs.specs.Reading.{◌>>=◌, Read, Reader, behind_at, body_at, by_at, column_at, count_at, def_at, has_length, key_at, list_at, many, part_def_at, placed}
-use Rattle.pt_defs.proofs.Steps.{Codec, Was, AreBytes-behind, AreBytes-front, first, from_bind, in_row, last, one_ok, same_pair}
+use Rattle.pt_ast.specs.Storable.{HasAtLeast}
+use Rattle.pt_defs.specs.Spelling.{behind_text, body_text, by_text, column_text, key_text, list_text, part_text}
+use Rattle.pt_defs.specs.Reading.{◌>>=◌, Read, Reader, behind_at, body_at, by_at, column_at, count_at, key_at, list_at, many, part_def_at}
+use Rattle.pt_defs.proofs.Steps.{Codec, Was, first, from_bind, in_row, last, one_ok, same_pair}
 use Rattle.pt_defs.proofs.Items.{AreSoMany, IsCount, count, so_many}
 use Rattle.pt_defs.proofs.Columns.{IsColumn, column}
 use Rattle.pt_defs.proofs.Parts.{IsBy, IsPart, KeyIs, at_least, is_by, is_part, one_key}

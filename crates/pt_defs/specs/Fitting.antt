@@ -1,5 +1,5 @@
 -- What the types of a definition say of its numbers, names and bytes: each value of the code is so.
-use Rattle.std.specs.Prelude.{ℕ, ◌<◌, ◌^◌, List, All, IfSome}
+use Rattle.std.specs.Prelude.{◌<◌, ◌^◌, All, IfSome}
 use Rattle.std.specs.Int.{w32, w64, w128}
 use Rattle.std.specs.Int.RustNames.{FitsSigned}
 use Rattle.pt_value.specs.Ident.{IsIdent}
@@ -11,7 +11,6 @@ use Rattle.pt_bytes.specs.Numbers.{AreBytes}
 use Rattle.pt_ast.specs.declared.tree.Expr.{Expr, every-Expr}
 use Rattle.pt_ast.specs.declared.tree.Expr.TheOpen.{Expr-F}
 use Rattle.pt_ast.specs.declared.table.Column.{Column}
-use Rattle.pt_ast.specs.declared.table.KeyDef.{KeyDef}
 use Rattle.pt_ast.specs.declared.table.PartBy.{PartBy}
 use Rattle.pt_ast.specs.declared.table.PartBy.TheVariants as by
 use Rattle.pt_ast.specs.declared.table.Bound.{Bound}

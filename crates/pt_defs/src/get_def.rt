@@ -8,7 +8,7 @@ ghost use Rattle.pt_defs.specs.Given.{Gives, Tells};
 ghost use Rattle.pt_defs.specs.Reading.{behind_at, body_at, bound_at, bounds_at, by_at, by_behind, column_at, def_at, has_length, key_at, list_at, many, name_at, part_def_at, subs_at, tuple_at};
 
 use crate::fault::{DefRead, Stop};
-use crate::get_expr::expr_at;
+use crate::get_expr::expr_over;
 use crate::get_item::{
     Front, byte_at, cell_behind, column_at, count_at, key_at, name_at, positions_at,
 };
@@ -53,11 +53,11 @@ fn by_behind<'a>(
     match code {
         0 => Ok((PartBy::Whole, rest)),
         1 if main => {
-            let (expr, rest) = front!(expr_at(alloc, columns, room, rest));
+            let (expr, rest) = front!(expr_over(alloc, columns, room, rest));
             Ok((PartBy::Range(expr), rest))
         }
         2 if main => {
-            let (expr, rest) = front!(expr_at(alloc, columns, room, rest));
+            let (expr, rest) = front!(expr_over(alloc, columns, room, rest));
             Ok((PartBy::List(expr), rest))
         }
         3 if main => {
@@ -69,7 +69,7 @@ fn by_behind<'a>(
             Ok((PartBy::ListColumns(numbers), rest))
         }
         5 | 6 => {
-            let (expr, rest) = front!(expr_at(alloc, columns, room, rest));
+            let (expr, rest) = front!(expr_over(alloc, columns, room, rest));
             Ok((PartBy::Hash(code == 6, expr), rest))
         }
         7 | 8 => {
@@ -312,7 +312,7 @@ fn body_at(alloc: Global, room: u32, bytes: &[u8]) -> Result<TableDef, Stop>
 /// How deep an expression nests at most.
 const ROOM: u32 = 300;
 
-/// The definition that these bytes spell, or the place of the first field that can't be read. It takes no more memory than the
+/// The definition that these bytes spell, or the place of the first field that can't be read. It takes memory in proportion to the
 /// definition.
 pub fn def_of_bytes(alloc: Global, bytes: &[u8]) -> Result<TableDef, DefRead>
     ensures tells { Tells result (def_at bytes.now) }

@@ -6,7 +6,7 @@ ghost use Rattle.pt_defs.specs.Reading.{call_at, date_at, expr_at, factors_at, f
 
 use crate::fault::Stop;
 use crate::get_item::{Front, byte_at, count_at, day_at, flag_at, string_at, u32_at, u64_at};
-use crate::put_expr::place_of;
+use crate::named::NamedColumns;
 use pt_ast::{Columns, Expr, Factors, Func, Op, Terms};
 use pt_plain::Held;
 use pt_value::Ident;
@@ -51,7 +51,7 @@ pub(crate) fn fits_date(day: i32) -> bool
 
 /// The name of the column at a position, the first of this name.
 #[tactic(auto, unfolding(crate::specs::Reading::named_at))]
-fn named_at<'a>(columns: &Columns, bytes: &'a [u8]) -> Front<'a, Ident>
+fn named_at<'a>(columns: &NamedColumns<'_>, bytes: &'a [u8]) -> Front<'a, Ident>
     ensures { Gives (λ x. (x.0, x.1.now)) result (named_at columns.now bytes.now) }
 {
     let (position, rest) = u32_at(bytes)?;
@@ -62,11 +62,11 @@ fn named_at<'a>(columns: &Columns, bytes: &'a [u8]) -> Front<'a, Ident>
 }
 
 #[tactic(auto, unfolding(crate::specs::Reading::first_named))]
-fn first_named(columns: &Columns, position: u32) -> Option<Ident>
+fn first_named(columns: &NamedColumns<'_>, position: u32) -> Option<Ident>
     ensures { result ≡ first_named columns.now position }
 {
     let column = columns.items().get(position as usize)?;
-    if place_of(columns, &column.name) != position as usize {
+    if columns.place_of(&column.name) != position as usize {
         return None;
     }
     Some(column.name)
@@ -124,12 +124,25 @@ fn plus_at(bytes: &[u8]) -> Front<'_, bool>
     Ok((false, rest))
 }
 
+/// An expression over these columns that nests so deep at most. Each node takes about as long however many columns there are.
+pub(crate) fn expr_over<'a>(
+    alloc: Global,
+    columns: &Columns,
+    room: u32,
+    bytes: &'a [u8],
+) -> Front<'a, Expr>
+    ensures { Gives (λ x. (x.0, x.1.now)) result (expr_at columns.now room bytes.now) }
+{
+    let named = NamedColumns::of(alloc, columns.items())?;
+    expr_at(alloc, &named, room, bytes)
+}
+
 /// An expression that nests so deep at most.
 #[tactic(auto, unfolding(crate::specs::Reading::expr_at))]
 #[cycle(expr_at)]
-pub(crate) fn expr_at<'a>(
+fn expr_at<'a>(
     alloc: Global,
-    columns: &Columns,
+    columns: &NamedColumns<'_>,
     room: u32,
     bytes: &'a [u8],
 ) -> Front<'a, Expr>
@@ -147,7 +160,7 @@ pub(crate) fn expr_at<'a>(
 #[cycle(expr_at)]
 fn node_behind<'a>(
     alloc: Global,
-    columns: &Columns,
+    columns: &NamedColumns<'_>,
     room: u32,
     start: &[u8],
     node: u8,
@@ -195,7 +208,7 @@ fn node_behind<'a>(
 #[cycle(expr_at)]
 fn call_at<'a>(
     alloc: Global,
-    columns: &Columns,
+    columns: &NamedColumns<'_>,
     room: u32,
     start: &[u8],
     func: Option<Func>,
@@ -215,7 +228,12 @@ fn call_at<'a>(
 /// A product.
 #[tactic(auto, unfolding(crate::specs::Reading::product_at))]
 #[cycle(expr_at)]
-fn product_at<'a>(alloc: Global, columns: &Columns, room: u32, bytes: &'a [u8]) -> Front<'a, Expr>
+fn product_at<'a>(
+    alloc: Global,
+    columns: &NamedColumns<'_>,
+    room: u32,
+    bytes: &'a [u8],
+) -> Front<'a, Expr>
     ensures { Gives (λ x. (x.0, x.1.now)) result (product_at (expr_at columns.now room) bytes.now) }
 {
     let (first, rest) = front!(expr_at(alloc, columns, room, bytes));
@@ -229,7 +247,7 @@ fn product_at<'a>(alloc: Global, columns: &Columns, room: u32, bytes: &'a [u8]) 
 #[cycle(expr_at)]
 fn factors_at<'a>(
     alloc: Global,
-    columns: &Columns,
+    columns: &NamedColumns<'_>,
     room: u32,
     bytes: &'a [u8],
 ) -> Front<'a, Factors>
@@ -242,7 +260,7 @@ fn factors_at<'a>(
 #[cycle(expr_at)]
 fn so_many_factors<'a>(
     alloc: Global,
-    columns: &Columns,
+    columns: &NamedColumns<'_>,
     room: u32,
     count: u32,
     bytes: &'a [u8],
@@ -263,7 +281,7 @@ fn so_many_factors<'a>(
 #[cycle(expr_at)]
 fn factor_at<'a>(
     alloc: Global,
-    columns: &Columns,
+    columns: &NamedColumns<'_>,
     room: u32,
     bytes: &'a [u8],
 ) -> Front<'a, (Op, Expr)>
@@ -277,7 +295,12 @@ fn factor_at<'a>(
 /// The parts of a sum.
 #[tactic(auto, unfolding(crate::specs::Reading::terms_at, crate::specs::Reading::pair_at))]
 #[cycle(expr_at)]
-fn terms_at<'a>(alloc: Global, columns: &Columns, room: u32, bytes: &'a [u8]) -> Front<'a, Terms>
+fn terms_at<'a>(
+    alloc: Global,
+    columns: &NamedColumns<'_>,
+    room: u32,
+    bytes: &'a [u8],
+) -> Front<'a, Terms>
     ensures { Gives (λ x. (x.0, x.1.now)) result (terms_at (expr_at columns.now room) bytes.now) }
 {
     let (count, rest) = count_at(bytes, 2, 4_294_967_296)?;
@@ -292,7 +315,7 @@ fn terms_at<'a>(alloc: Global, columns: &Columns, room: u32, bytes: &'a [u8]) ->
 #[cycle(expr_at)]
 fn more_terms<'a>(
     alloc: Global,
-    columns: &Columns,
+    columns: &NamedColumns<'_>,
     room: u32,
     first: Terms,
     count: u32,
@@ -314,7 +337,7 @@ fn more_terms<'a>(
 #[cycle(expr_at)]
 fn term_at<'a>(
     alloc: Global,
-    columns: &Columns,
+    columns: &NamedColumns<'_>,
     room: u32,
     bytes: &'a [u8],
 ) -> Front<'a, (bool, Expr)>

@@ -2,11 +2,12 @@
 ghost use Rattle.std.specs.Prelude.{◌≡◌, ◌++◌, IfOk, Ok, OnOk};
 ghost use Rattle.std.specs.List.{flat_map};
 ghost use Rattle.pt_ast.specs.StorableDef.{IsStorableDef};
-ghost use Rattle.pt_defs.specs.Fitting.{FitsDef};
+ghost use Rattle.pt_defs.specs.Files.{IsFileOf};
 ghost use Rattle.pt_defs.specs.Reading.{def_at};
-ghost use Rattle.pt_defs.specs.Spelling.{Spells, behind_text, body_text, bound_text, bounds_text, by_text, column_text, key_text, list_text, name_text, part_text, subs_text, tuple_text};
+ghost use Rattle.pt_defs.specs.Spelling.{behind_text, body_text, bound_text, bounds_text, by_text, column_text, key_text, list_text, name_text, part_text, subs_text, tuple_text};
 
-use crate::put_expr::put_expr;
+use crate::fitting::def_fits;
+use crate::put_expr::put_over;
 use crate::put_item::{put_cell, put_column, put_count, put_key, put_name, put_positions};
 use pt_ast::{Bound, BoundTuple, Columns, Idents, KeyDefs, PartBy, PartDef, TableDef, Tuples};
 use pt_bytes::{put_bytes, put_u8, put_u64};
@@ -15,14 +16,15 @@ use std::alloc::{AllocError, Global};
 /// What a definition begins with: `PTD`, 1.
 pub(crate) const HEAD: [u8; 4] = [80, 84, 68, 1];
 
-/// The bytes of a definition: its one spelling.
+/// The bytes of a definition: its one spelling, which is read to it.
 pub fn def_bytes(alloc: Global, def: &TableDef) -> Result<Vec<u8>, AllocError>
     requires { IsStorableDef def.now }
-    ensures spelled { IfOk result (λ bytes. Spells bytes.items def.now) }
-    ensures reads_back { IfOk result (λ bytes. FitsDef def.now → def_at bytes.items ≡ Ok def.now) }
+    ensures file { IfOk result (λ bytes. IsFileOf bytes.items def.now) }
+    ensures reads_back { IfOk result (λ bytes. def_at bytes.items ≡ Ok def.now) }
 {
+    def_fits(def);
     let mut body = Vec::new(alloc);
-    put_body(&mut body, def)?;
+    put_body(alloc, &mut body, def)?;
     let mut bytes = Vec::new(alloc);
     put_bytes(&mut bytes, &HEAD)?;
     put_u64(&mut bytes, body.len() as u64)?;
@@ -31,13 +33,13 @@ pub fn def_bytes(alloc: Global, def: &TableDef) -> Result<Vec<u8>, AllocError>
 }
 
 #[tactic(auto, unfolding(crate::specs::Spelling::body_text))]
-fn put_body(out: &mut Vec<u8>, def: &TableDef) -> Result<(), AllocError>
+fn put_body(alloc: Global, out: &mut Vec<u8>, def: &TableDef) -> Result<(), AllocError>
     ensures { OnOk result (out.new.items ≡ out.old.items ++ body_text def.now) }
 {
     put_columns(out, &def.columns)?;
     put_keys(out, &def.keys)?;
-    put_by(out, &def.columns, &def.by)?;
-    put_behind(out, def)
+    put_by(alloc, out, &def.columns, &def.by)?;
+    put_behind(alloc, out, def)
 }
 
 fn put_columns(out: &mut Vec<u8>, columns: &Columns) -> Result<(), AllocError>
@@ -64,18 +66,23 @@ fn put_keys(out: &mut Vec<u8>, keys: &KeyDefs) -> Result<(), AllocError>
 
 /// What the rows are partitioned by.
 #[tactic(auto, unfolding(crate::specs::Spelling::by_text))]
-fn put_by(out: &mut Vec<u8>, columns: &Columns, by: &PartBy) -> Result<(), AllocError>
+fn put_by(
+    alloc: Global,
+    out: &mut Vec<u8>,
+    columns: &Columns,
+    by: &PartBy,
+) -> Result<(), AllocError>
     ensures { OnOk result (out.new.items ≡ out.old.items ++ by_text columns.now by.now) }
 {
     match by {
         PartBy::Whole => put_u8(out, 0),
         PartBy::Range(expr) => {
             put_u8(out, 1)?;
-            put_expr(out, columns, expr)
+            put_over(alloc, out, columns, expr)
         }
         PartBy::List(expr) => {
             put_u8(out, 2)?;
-            put_expr(out, columns, expr)
+            put_over(alloc, out, columns, expr)
         }
         PartBy::RangeColumns(numbers) => {
             put_u8(out, 3)?;
@@ -87,7 +94,7 @@ fn put_by(out: &mut Vec<u8>, columns: &Columns, by: &PartBy) -> Result<(), Alloc
         }
         PartBy::Hash(is_linear, expr) => {
             put_u8(out, if *is_linear { 6 } else { 5 })?;
-            put_expr(out, columns, expr)
+            put_over(alloc, out, columns, expr)
         }
         PartBy::Key(is_linear, numbers) => {
             put_u8(out, if *is_linear { 8 } else { 7 })?;
@@ -98,13 +105,13 @@ fn put_by(out: &mut Vec<u8>, columns: &Columns, by: &PartBy) -> Result<(), Alloc
 
 /// What stands behind the partitioning: nothing where there is none.
 #[tactic(auto, unfolding(crate::specs::Spelling::behind_text))]
-fn put_behind(out: &mut Vec<u8>, def: &TableDef) -> Result<(), AllocError>
+fn put_behind(alloc: Global, out: &mut Vec<u8>, def: &TableDef) -> Result<(), AllocError>
     ensures { OnOk result (out.new.items ≡ out.old.items ++ behind_text def.now def.now.by) }
 {
     match &def.by {
         PartBy::Whole => Ok(()),
         _ => {
-            put_by(out, &def.columns, &def.sub)?;
+            put_by(alloc, out, &def.columns, &def.sub)?;
             put_parts(out, def)
         }
     }

@@ -1,20 +1,32 @@
 //! Writing the expressions of a definition, each behind what is there.
 ghost use Rattle.std.specs.Prelude.{◌≡◌, ◌++◌, OnOk};
-ghost use Rattle.std.specs.List.{position};
-ghost use Rattle.std.specs.Str.{bytes_eq};
 ghost use Rattle.pt_bytes.specs.Numbers.{le_bytes};
 ghost use Rattle.pt_defs.specs.Spelling.{column_place, date_text, expr_text, factors_text, func_code, i128_text, op_code, terms_text};
 
+use crate::named::NamedColumns;
 use crate::put_item::{put_count, put_day, put_string};
-use pt_ast::{Column, Columns, Expr, Factors, Func, Op, Terms};
+use pt_ast::{Columns, Expr, Factors, Func, Op, Terms};
 use pt_bytes::{put_bytes, put_u8};
 use pt_value::Ident;
-use std::alloc::AllocError;
+use std::alloc::{AllocError, Global};
 
-/// An expression over these columns.
+/// An expression over these columns. Each node takes about as long however many columns there are.
+pub(crate) fn put_over(
+    alloc: Global,
+    out: &mut Vec<u8>,
+    columns: &Columns,
+    expr: &Expr,
+) -> Result<(), AllocError>
+    ensures { OnOk result (out.new.items ≡ out.old.items ++ expr_text columns.now expr.now) }
+{
+    let named = NamedColumns::of(alloc, columns.items())?;
+    put_expr(out, &named, expr)
+}
+
+/// An expression.
 #[tactic(auto, using(crate::proofs::Texts::behind_byte))]
 #[cycle(put_expr)]
-pub(crate) fn put_expr(out: &mut Vec<u8>, columns: &Columns, expr: &Expr) -> Result<(), AllocError>
+fn put_expr(out: &mut Vec<u8>, columns: &NamedColumns<'_>, expr: &Expr) -> Result<(), AllocError>
     ensures { OnOk result (out.new.items ≡ out.old.items ++ expr_text columns.now expr.now) }
 {
     match expr {
@@ -61,7 +73,7 @@ pub(crate) fn put_expr(out: &mut Vec<u8>, columns: &Columns, expr: &Expr) -> Res
 
 /// The parts of a sum.
 #[cycle(put_expr)]
-fn put_terms(out: &mut Vec<u8>, columns: &Columns, parts: &Terms) -> Result<(), AllocError>
+fn put_terms(out: &mut Vec<u8>, columns: &NamedColumns<'_>, parts: &Terms) -> Result<(), AllocError>
     ensures { OnOk result (out.new.items ≡ out.old.items ++ terms_text columns.now parts.now) }
 {
     let items = parts.items();
@@ -75,7 +87,11 @@ fn put_terms(out: &mut Vec<u8>, columns: &Columns, parts: &Terms) -> Result<(), 
 
 /// The later parts of a product.
 #[cycle(put_expr)]
-fn put_factors(out: &mut Vec<u8>, columns: &Columns, parts: &Factors) -> Result<(), AllocError>
+fn put_factors(
+    out: &mut Vec<u8>,
+    columns: &NamedColumns<'_>,
+    parts: &Factors,
+) -> Result<(), AllocError>
     ensures { OnOk result (out.new.items ≡ out.old.items ++ factors_text columns.now parts.now) }
 {
     let items = parts.items();
@@ -105,25 +121,10 @@ fn put_date(out: &mut Vec<u8>, day: Option<i32>) -> Result<(), AllocError>
 }
 
 /// The position of the first column of a name.
-fn put_place(out: &mut Vec<u8>, columns: &Columns, name: &Ident) -> Result<(), AllocError>
+fn put_place(out: &mut Vec<u8>, columns: &NamedColumns<'_>, name: &Ident) -> Result<(), AllocError>
     ensures { OnOk result (out.new.items ≡ out.old.items ++ le_bytes 4 (column_place name.now columns.now)) }
 {
-    put_count(out, place_of(columns, name))
-}
-
-pub(crate) fn place_of(columns: &Columns, name: &Ident) -> usize
-    ensures { result ≡ column_place name.now columns.now }
-{
-    match position_of(columns.items(), name) {
-        Some(place) => place,
-        None => columns.items().len(),
-    }
-}
-
-fn position_of(columns: &[Column], name: &Ident) -> Option<usize>
-    ensures { result ≡ position (λ column. bytes_eq column.name name.now) columns.now }
-{
-    columns.iter().position(|column| column.name == *name)
+    put_count(out, columns.place_of(name))
 }
 
 fn op_code(op: Op) -> u8

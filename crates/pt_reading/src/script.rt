@@ -54,9 +54,10 @@ impl Script {
         Ok(true)
     }
 
-    /// The script ends here: its last piece needs no `;`.
+    /// The script ends here: its last piece needs no `;`. No byte more is taken.
     pub fn end(&mut self) -> Result<(), AllocError>
-        ensures { OnOk result ((all : List ℕ) → IsTaken all self.old → IsWhole all self.new) }
+        ensures whole { OnOk result ((all : List ℕ) → IsTaken all self.old → IsWhole all self.new) }
+        ensures count { self.new.taken ≡ self.old.taken }
     {
         close(self.alloc, &mut self.splitter, &mut self.statements)?;
         Ok(())

@@ -1,6 +1,7 @@
 ghost use Rattle.std.specs.Prelude.{◌≡◌, true};
 ghost use Rattle.pt_host.specs.Listed.{FileList};
 ghost use Rattle.pt_ast.specs.StorableStmt.{IsStorableStmt};
+ghost use Rattle.pt_store.specs.Step.{IsLook};
 ghost use Rattle.pt_store.specs.Stops.{IsCounted};
 ghost use Rattle.pt_store.specs.Store.{IsStore};
 ghost use Rattle.pt_flat.specs.Step.{step};
@@ -15,15 +16,18 @@ use pt_host::Host;
 use pt_session::Session;
 use pt_store::Stop;
 
-/// Executes SELECT and SHOW CREATE TABLE. Whatever is answered, the directory's database and the session are as they were. `Fault` where a
-/// file couldn't be read.
+/// Executes SELECT and SHOW CREATE TABLE. Whatever is answered, the directory and the session are as they were: no file is touched. `Fault`
+/// where a file couldn't be read.
 pub fn execute<H: Host>(session: &mut Session, host: &mut H, stmt: &Stmt) -> Result<Reply, Stop>
     requires open { IsOpen session.old }
     requires storable { IsStorableStmt stmt.now }
     requires of { is_select stmt.now ≡ true }
     requires stands { H.tells → HasMap session.old (H.world host.old) }
     ensures told { H.tells → (map : FileList) → IsStore session.old.store map (H.world host.old) → Tells (λ db. step db stmt.now) session.old session.new map (H.world host.old) (H.world host.new) result }
+    // Over every directory that the store stands for, also one that holds no database.
+    ensures looks { H.tells → (map : FileList) → IsStore session.old.store map (H.world host.old) → IsLook session.old.store map (H.world host.old) (H.world host.new) }
     ensures open { IsLeftAfter session.old session.new result }
+    ensures same { session.new ≡ session.old }
     ensures counts { IsCounted (H.counts host.old) (H.counts host.new) result }
 {
     match stmt {

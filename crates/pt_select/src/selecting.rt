@@ -5,6 +5,7 @@ ghost use Rattle.pt_host.specs.Listed.{FileList};
 ghost use Rattle.pt_checks.specs.Named.{bad_parts};
 ghost use Rattle.pt_checks.specs.Printed.{select_text};
 ghost use Rattle.pt_checks.specs.Queries.{IsChecked, bad_query};
+ghost use Rattle.pt_store.specs.Step.{IsLook};
 ghost use Rattle.pt_store.specs.Stops.{IsCounted};
 ghost use Rattle.pt_store.specs.Store.{IsStore};
 ghost use Rattle.pt_db.specs.Sound.{IsSoundRow};
@@ -22,11 +23,12 @@ use pt_session::Session;
 use pt_store::Stop;
 use std::alloc::{AllocError, Global};
 
-/// Answers SELECT.
+/// Answers SELECT. It only looks.
 pub(crate) fn select<H: Host>(session: &Session, host: &mut H, query: &Query) -> Result<Reply, Stop>
     requires open { IsOpen session.now }
     requires stands { H.tells → HasMap session.now (H.world host.old) }
     ensures told { H.tells → (map : FileList) → IsStore session.now.store map (H.world host.old) → Tells (λ db. select db query.now) session.now session.now map (H.world host.old) (H.world host.new) result }
+    ensures looks { H.tells → (map : FileList) → IsStore session.now.store map (H.world host.old) → IsLook session.now.store map (H.world host.old) (H.world host.new) }
     ensures counts { IsCounted (H.counts host.old) (H.counts host.new) result }
 {
     let alloc = session.alloc();

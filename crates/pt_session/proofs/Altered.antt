@@ -147,7 +147,7 @@ module _ (session : Session) (name : List ℕ) (def : TableDef) (fresh : List (S
 
         made : IsRefiled (listed.by_name map) all name old def fresh
         made = record {
-          defined = ap (option_map def_at) (all_plain (def_name name) (def_plain name) ∙ r.at_def) ∙ ap (λ d. Some d) (of.files.reads of.fits);
+          defined = ap (option_map def_at) (all_plain (def_name name) (def_plain name) ∙ r.at_def) ∙ ap (λ d. Some d) of.files.reads;
           rows = λ spot row. all_plain (spot_file name def spot) (row_plain name (leaf_of def spot)) ∙ r.rows spot row;
           gone = λ file row none. all_plain file (row_is old file row) ∙ r.gone file row none;
           others = λ file not_def not_old not_new. by_test file not_def not_old not_new (is_extra file) refl;
@@ -182,7 +182,7 @@ module _ (session : Session) (name : List ℕ) (def : TableDef) (fresh : List (S
           let r = changed map next is in
           record {
             defs = by_name (λ query. option_map def_at (listed.by_name next (def_name query)) ≡ option_map (λ d. Ok d) (def_of after query)) name
-                (ap (option_map def_at) r.at_def ∙ ap (λ d. Some d) (of.files.reads of.fits) ∙ ap (option_map (λ d. Ok d)) (sym redefined.here))
+                (ap (option_map def_at) r.at_def ∙ ap (λ d. Some d) of.files.reads ∙ ap (option_map (λ d. Ok d)) (sym redefined.here))
                 (λ query named apart.
                 ap (option_map def_at) (other_def (listed.by_name map) (listed.by_name next) r query apart) ∙ over.defs query named ∙ ap (option_map (λ d. Ok d)) (sym (redefined.others query apart)));
             next = ap (λ (file : Option (List ℕ)). counter_of (unwrap_or file [])) (same_counter (listed.by_name map) (listed.by_name next) r) ∙ over.next ∙ ap (λ (n : ℕ). Ok n) (sym same);

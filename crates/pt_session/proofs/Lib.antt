@@ -5,7 +5,6 @@ pub mod BadRows
 pub mod Defined
 pub mod Excludes
 pub mod Executing
-pub mod ExprFits
 pub mod FileEnds
 pub mod GivenFiles
 pub mod InOrder

@@ -46,7 +46,7 @@ module _ (session : Session) (name : List ℕ) (def : TableDef) (coming : Coming
 
   pub came_holds : (map next : FileList) (db later : Db) → IsReshaped coming.fresh coming.chain map next → StandsIn session map db → IsCreateOf name def db later → Holds (listed.by_name next) later
   came_holds map next db later is stands c =
-      come_holds (listed.by_name map) (listed.by_name next) name def (Some of.fresh.bytes) (Some []) (came map next is) db later stands.holds c (ap (λ r. Some r) (of.fresh.reads of.fits)) refl
+      come_holds (listed.by_name map) (listed.by_name next) name def (Some of.fresh.bytes) (Some []) (came map next is) db later stands.holds c (ap (λ r. Some r) of.fresh.reads) refl
 
   module _ (after : Session) (each : (query : List ℕ) → def_of after query ≡ option_or (def_of session query) (get (pointwise nat_eq) coming.tables query)) (same : after.next ≡ session.next) where
     came_defines : Redefines session after name (Some def)
@@ -56,7 +56,7 @@ module _ (session : Session) (name : List ℕ) (def : TableDef) (coming : Coming
 
     pub came_over : (map next : FileList) → IsReshaped coming.fresh coming.chain map next → IsOver session (listed.by_name map) → IsOver after (listed.by_name next)
     came_over map next is over =
-        reshaped_over session after name def (Some def) (listed.by_name map) (listed.by_name next) (Some of.fresh.bytes) (Some []) came_defines (came map next is) (ap (λ r. Some r) (of.fresh.reads of.fits)) over
+        reshaped_over session after name def (Some def) (listed.by_name map) (listed.by_name next) (Some of.fresh.bytes) (Some []) came_defines (came map next is) (ap (λ r. Some r) of.fresh.reads) over
 
     pub came_leaves : (map next : FileList) (db later : Db) → IsReshaped coming.fresh coming.chain map next → StandsIn session map db → IsCreateOf name def db later → Leaves {T = Unit {0}} after map next db later (Ok tt)
     came_leaves map next db later is stands c =

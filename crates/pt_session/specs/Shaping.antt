@@ -43,7 +43,7 @@ empty_files names = map (λ name. (name, [])) names
 pub record AreFresh (name : List ℕ) (def : TableDef) (fresh : FileList) : Type 0 where
   pub bytes : List ℕ
   pub are : fresh ≡ (def_name name, bytes) ∷ empty_files (row_files name def)
-  pub reads : FitsDef def → def_at bytes ≡ Ok def
+  pub reads : def_at bytes ≡ Ok def
 
 -- ---- acts
 
@@ -84,7 +84,7 @@ given_file name def given = (spot_file name def given.0, rows_text given.1)
 pub record AreAltered (name : List ℕ) (def : TableDef) (fresh : List (Spot × List Row)) (files : FileList) : Type 0 where
   pub bytes : List ℕ
   pub are : files ≡ (def_name name, bytes) ∷ map (given_file name def) fresh
-  pub reads : FitsDef def → def_at bytes ≡ Ok def
+  pub reads : def_at bytes ≡ Ok def
   pub records : All AreRecords fresh
 
 -- a file gets the bytes of its shadow, in place of those that it has

@@ -15,11 +15,10 @@ ghost use Rattle.pt_session.specs.Shaping.{AreAltered, AreAltering, IsAltering, 
 
 use crate::Session;
 use crate::files::files_of;
-use crate::fitting::{def_fits, name_fits, parts_fit};
 use indexmap::IndexMap;
 use pt_ast::{Row, Rows, Spot, TableDef};
 use pt_ddl_log::{Act, Chain};
-use pt_defs::def_bytes;
+use pt_defs::{def_bytes, def_fits, name_fits, parts_fit};
 use pt_holds::file_of;
 use pt_host::{FileList, Name};
 use pt_names::def_name;

@@ -18,7 +18,6 @@
 
 mod altering;
 mod files;
-mod fitting;
 mod looking;
 mod opening;
 mod session;

@@ -12,12 +12,11 @@ ghost use Rattle.pt_session.specs.Shaping.{AreFresh, IsCreating, IsDropping, com
 
 use crate::Session;
 use crate::files::files_of;
-use crate::fitting::{def_fits, name_fits, parts_fit};
 use crate::tables::{TableDefs, TableName};
 use indexmap::IndexMap;
 use pt_ast::TableDef;
 use pt_ddl_log::{Act, Chain};
-use pt_defs::def_bytes;
+use pt_defs::{def_bytes, def_fits, name_fits, parts_fit};
 use pt_host::{FileList, Name};
 use pt_names::def_name;
 use pt_plain::List;

@@ -28,3 +28,11 @@ returns-in-Err-Taken c =
       same = all_same c.args.books.now (c.get_mut.follows.lender later) c.args.spot book later (sym c.in-Some.ensures.value) updates.1 c.in-Err-Taken.ensures.err
           (others_same c.args.books.now (c.get_mut.follows.lender later) c.args.spot (Some later) updates.0);
     }
+
+pub returns-in-Err-NoMemory : goal.returns-in-Err-NoMemory
+returns-in-Err-NoMemory c =
+    let later = c.enter.new.self in
+    let book = c.in-Some.book.now in
+    let updates = (c.get_mut.follows.holds later).3 c.requires in
+    all_same c.args.books.now (c.get_mut.follows.lender later) c.args.spot book later (sym c.in-Some.ensures.value) updates.1 c.in-Err-NoMemory.ensures.err
+    (others_same c.args.books.now (c.get_mut.follows.lender later) c.args.spot (Some later) updates.0)

@@ -1,4 +1,4 @@
-use Rattle.std.proofs.Common.{sym, arith}
+use Rattle.std.proofs.Common.{sym}
 use Rattle.pt_defs.proofs.Fields.{found_long, found_number, missing_number}
 use Rattle.pt_defs.proofs.get_item.u64_at.Goals as goal
 

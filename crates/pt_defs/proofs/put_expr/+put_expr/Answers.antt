@@ -1,4 +1,3 @@
-use Rattle.std.proofs.Common.{refl}
 use Rattle.pt_defs.specs.Spelling.{expr_text, factor_text, term_text}
 use Rattle.pt_defs.proofs.Texts.{text_written, hex_written, call_written, product_written, parts_written}
 use Rattle.pt_defs.proofs.put_expr.+put_expr.Goals as goal

@@ -3,7 +3,7 @@ use Rattle.pt_engine.proofs.InputLemmas.{front_more, front_short, stopped_within
 use Rattle.pt_engine.proofs.input.take_script.Goals as goal
 
 pub returns-then-count-eq0-clause-short : goal.returns-then-count-eq0-clause-short
-returns-then-count-eq0-clause-short g c = rw c.into_statements.ensures (short_whole c.end.new.self c.loop-count.invariant.some.0 (c.in_ok-end.ensures c.loop-count.invariant.some.0 c.loop-count.invariant.some.1))
+returns-then-count-eq0-clause-short g c = rw c.into_statements.ensures (short_whole c.end.new.self c.loop-count.invariant.some.0 (c.in_ok-end.ensures.whole c.loop-count.invariant.some.0 c.loop-count.invariant.some.1))
 
 pub returns-then-not-branch-clause-short : goal.returns-then-not-branch-clause-short
 returns-then-not-branch-clause-short g c =

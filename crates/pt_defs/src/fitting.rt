@@ -1,4 +1,5 @@
-//! What the types of a definition say of its numbers, names and bytes, as a fact for contracts. Each call only looks.
+//! What the types of a definition say of its numbers, names and bytes, as a fact for contracts. Each call only looks: it changes
+//! nothing, and takes no memory.
 ghost use Rattle.std.specs.Prelude.{All, IfSome};
 ghost use Rattle.pt_value.specs.Ident.{IsIdent};
 ghost use Rattle.pt_bytes.specs.Numbers.{AreBytes};
@@ -7,8 +8,8 @@ ghost use Rattle.pt_defs.specs.Fitting.{FitsBound, FitsBy, FitsCell, FitsColumn,
 use pt_ast::{Bound, BoundTuple, Column, Expr, Factors, KeyDef, PartBy, PartDef, TableDef, Terms};
 use pt_value::{Ident, Kind, Value};
 
-/// Every definition in memory is so.
-pub(crate) fn def_fits(def: &TableDef)
+/// The numbers and names of every definition in memory fit their types.
+pub fn def_fits(def: &TableDef)
     ensures { FitsDef def.now }
 {
     columns_fit(def.columns.items());
@@ -124,8 +125,8 @@ fn factors_fit(parts: &Factors)
     }
 }
 
-/// Every partition in memory is so.
-pub(crate) fn parts_fit(parts: &[PartDef])
+/// The bounds and names of partitions in memory fit their types.
+pub fn parts_fit(parts: &[PartDef])
     ensures { All FitsPart parts.now }
 {
     for part in parts {
@@ -174,8 +175,8 @@ fn names_fit(names: &[Ident])
     }
 }
 
-/// Every name in memory is so.
-pub(crate) fn name_fits(name: &Ident)
+/// Every name in memory is an identifier.
+pub fn name_fits(name: &Ident)
     ensures { IsIdent name.now }
 {
     name.bytes();

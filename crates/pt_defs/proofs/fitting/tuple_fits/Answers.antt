@@ -1,7 +1,7 @@
 use Rattle.std.proofs.Common.{All, subst, take_all}
 use Rattle.std.proofs.lemmas.List.Elements.{All-more}
 use Rattle.pt_defs.specs.Fitting.{FitsBound}
-use Rattle.pt_session.proofs.fitting.tuple_fits.Goals as goal
+use Rattle.pt_defs.proofs.fitting.tuple_fits.Goals as goal
 
 pub loop-bound-preserved : goal.loop-bound-preserved
 loop-bound-preserved c = All-more FitsBound c.args.bounds.now c.loop-bound.bound-index c.bound-item.result c.loop-bound-test.true c.loop-bound.invariant (subst FitsBound c.bound-item.is c.bound_fits.ensures)

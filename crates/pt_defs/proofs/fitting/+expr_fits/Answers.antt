@@ -1,6 +1,6 @@
 use Rattle.std.proofs.Common.{rules}
-use Rattle.pt_session.proofs.ExprFits.{call_fits, column_fits, date_fits, hex_fits, neg_fits, null_fits, number_fits, product_fits, sum_fits, text_fits}
-use Rattle.pt_session.proofs.fitting.+expr_fits.Goals as goal
+use Rattle.pt_defs.proofs.ExprFits.{call_fits, column_fits, date_fits, hex_fits, neg_fits, null_fits, number_fits, product_fits, sum_fits, text_fits}
+use Rattle.pt_defs.proofs.fitting.+expr_fits.Goals as goal
 
 pub expr_fits-returns-in-Number : goal.expr_fits-returns-in-Number
 expr_fits-returns-in-Number t c = number_fits c.args.expr.now _ c.in-Number.is (search rules)
