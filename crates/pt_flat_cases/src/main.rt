@@ -1,10 +1,10 @@
-//! Cases for `pt_flat`, one a line of standard input, and the answer to each on standard output.
+//! Cases for `pt_flat` and `pt_altered`, one a line of standard input, and the answer to each on standard output.
 //!
 //! A line is a statement, in which `%` and two hexadecimal digits are a byte. It is taken on the database that the lines before it have
 //! left, and the answer is that of the model. The line `new` begins with the database without tables, and `late` with one whose next
 //! row takes the last serial. These, an empty line and one that begins with `#` are printed as they stand.
 //!
-//! It stands on `pt_flat`, and on `pt_parse_ddl` and `pt_parse_dml` for what a line spells.
+//! It stands on `pt_flat` and `pt_altered`, and on `pt_parse_ddl`, `pt_parse_dml` and `pt_parse_alter` for what a line spells.
 #![tactic(auto)]
 
 mod lines;

@@ -2,6 +2,7 @@ ghost use Rattle.pt_ast.specs.StorableStmt.{IsStorableStmt};
 ghost use Rattle.pt_db.specs.Sound.{IsSound};
 
 use crate::reading::read;
+use pt_altered::{alter, is_altering};
 use pt_ast::{Db, Refusal, Reply, Stmt};
 use pt_db::{empty_db, ok_reply, refusal_reply};
 use pt_flat::{is_covered, step};
@@ -73,6 +74,8 @@ fn stepped(alloc: Global, db: &mut Db, stmt: &Stmt) -> Result<Reply, AllocError>
 {
     if is_covered(stmt) {
         step(alloc, db, stmt)
+    } else if is_altering(stmt) {
+        alter(alloc, db, stmt)
     } else {
         ok_reply(alloc)
     }

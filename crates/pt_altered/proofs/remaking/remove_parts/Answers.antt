@@ -1,0 +1,23 @@
+use Rattle.std.proofs.Common.{◌≡◌, ◌∙◌, rules, sym, subst}
+use Rattle.std.specs.Prelude.{List, Some, Ok}
+use Rattle.pt_ast.specs.declared.database.Row.{Row}
+use Rattle.pt_ast.specs.StorableDef.{IsStorableDef}
+use Rattle.pt_place.specs.Valid.{IsValid}
+use Rattle.pt_complete.proofs.Naming.{ok_then}
+use Rattle.pt_db.specs.Lookup.{table_of}
+use Rattle.pt_altered.specs.Kept.{IsKeptOf}
+use Rattle.pt_actions.specs.Repartitioned.{unpartitioned_of}
+use Rattle.pt_altered.proofs.Kept.{unpartitioned_kept}
+use Rattle.pt_altered.proofs.remaking.remove_parts.Goals as goal
+
+pub returns-in_ok-rows-in-Ok-clause-sound : goal.returns-in_ok-rows-in-Ok-clause-sound
+returns-in_ok-rows-in-Ok-clause-sound c =
+    let db = c.args.db.now in
+    let name = c.args.name.now in
+    let table = c.in-Some.table.now in
+    let at : table_of db name ≡ Some table = search rules in
+    let is : Ok c.in-Ok.def ≡ unpartitioned_of name table.def = sym c.in-Ok.is ∙ c.in_ok-def.ensures.made in
+    let rows : c.in_ok-rows-in-Ok.rows ≡ table.rows = c.in_ok-rows-in-Ok.ensures ∙ c.items.ensures in
+    c.keep.ensures.sound c.requires.sound
+    (subst (λ (own : List Row). IsKeptOf db name c.in-Ok.def own) (sym rows)
+    (unpartitioned_kept db name table c.requires.sound at c.in-Ok.def (ok_then c.in_ok-def.field-0 c.in-Ok.def IsStorableDef c.in-Ok.is c.in_ok-def.ensures.storable) (ok_then c.in_ok-def.field-0 c.in-Ok.def IsValid c.in-Ok.is c.in_ok-def.ensures.valid) is))

@@ -1,0 +1,4 @@
+pub mod Altered
+pub mod Actions
+pub mod Alter
+pub mod Kept
