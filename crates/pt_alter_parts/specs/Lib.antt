@@ -1,0 +1,2 @@
+pub mod Redefined
+pub mod Emptied
