@@ -1,0 +1,6 @@
+pub mod Few
+pub mod Finds
+pub mod Same
+pub mod Means
+pub mod Made
+pub mod Tables
